@@ -1,0 +1,15 @@
+pub mod WordLaws
+pub mod Scans
+pub mod Paying
+pub mod Parts
+pub mod WordPays
+pub mod Pays
+pub mod PartsPay
+pub mod Owing
+pub mod Rests
+pub mod Decodes
+pub mod Acceptance
+pub mod Readings
+pub mod StepSearch
+pub mod StepPlace
+pub mod StepParts

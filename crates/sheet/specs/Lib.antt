@@ -1,0 +1,11 @@
+pub mod Numbers
+pub mod Kinds
+pub mod Trees
+pub mod Encoding
+pub mod Lawful
+pub mod Survey
+pub mod Reads
+pub mod Decoding
+pub mod Acceptance
+pub mod Places
+pub mod Reading
