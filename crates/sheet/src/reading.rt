@@ -44,19 +44,22 @@ impl<'a> Sheet<'a> {
     }
 
     pub fn facts(&self) -> u32
-        ensures { λ r. ⌜ r ≡ tree (now (self .entry)) .facts ⌝ }
+        ensures counted { λ r. ⌜ r ≡ tree (now (self .entry)) .facts ⌝ }
+        ensures few { λ r. ⌜ r ≤ 64 ⌝ }
     {
         self.facts
     }
 
     pub fn steps(&self) -> u32
-        ensures { λ r. ⌜ r ≡ length (tree (now (self .entry)) .steps) ⌝ }
+        ensures counted { λ r. ⌜ r ≡ length (tree (now (self .entry)) .steps) ⌝ }
+        ensures few { λ r. ⌜ r ≤ 64 ⌝ }
     {
         self.steps
     }
 
     pub fn goals(&self) -> u32
-        ensures { λ r. ⌜ r ≡ length (tree (now (self .entry)) .goals) ⌝ }
+        ensures counted { λ r. ⌜ r ≡ length (tree (now (self .entry)) .goals) ⌝ }
+        ensures few { λ r. ⌜ r ≤ 8 ⌝ }
     {
         self.goals
     }

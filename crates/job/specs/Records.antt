@@ -1,0 +1,20 @@
+-- What a job's record holds, as a ledger.
+use mathlib.Core.Bool.{Bool}
+use mathlib.Core.List.{List}
+use Prim.Native.Nat.{ℕ}
+use lib.ListN.{take}
+use Rattle.bits.specs.Bits.{bit}
+use Rattle.execution.specs.State.{holds}
+use Rattle.job.specs.declared.strikes.Strikes.{Strikes}
+use Rattle.job.specs.declared.trail.Trail.{Trail}
+use Rattle.job.specs.declared.jobs.Job.{Job}
+use Rattle.job.specs.Ledger.{Ledger}
+
+abbrev pub struck : Strikes → ℕ → Bool
+struck s k = bit (s .bits) k
+
+abbrev pub done : Trail → List ℕ
+done t = take (t .len) (t .steps)
+
+abbrev pub ledger : Job → Ledger
+ledger j = record { state = holds (j .state); struck = struck (j .strikes); done = done (j .trail) }

@@ -1,0 +1,11 @@
+// What a job holds.
+use crate::strikes::Strikes;
+use crate::trail::Trail;
+use execution::State;
+
+#[derive(Clone, Copy)]
+pub struct Job {
+    pub(crate) state: State,
+    pub(crate) strikes: Strikes,
+    pub(crate) trail: Trail,
+}
