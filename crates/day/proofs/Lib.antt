@@ -1,0 +1,5 @@
+pub mod Chunks
+pub mod Prefixes
+pub mod Printing
+pub mod Unique
+pub mod Rejoining

@@ -1,0 +1,5 @@
+pub mod Bytes
+pub mod Calls
+pub mod Text
+pub mod Opening
+pub mod Turning
