@@ -3,3 +3,4 @@ pub mod Prefixes
 pub mod Printing
 pub mod Unique
 pub mod Rejoining
+pub mod Unfinished

@@ -90,11 +90,6 @@ fn run_calls<R: Read, W: Write>(
     Ok(())
 }
 
-// A sheet that is yet to read words of any lifetime.
-fn unread<'a>() -> Sheet<'a> {
-    Sheet::empty()
-}
-
 fn run_sheet<R: Read, W: Write>(
     heap: Global,
     words: &[u32],
@@ -102,7 +97,7 @@ fn run_sheet<R: Read, W: Write>(
     input: &mut R,
     output: &mut W,
 ) -> io::Result<()> {
-    let mut sheet = unread();
+    let mut sheet = Sheet::empty();
     match sheet.read(words) {
         Ok(()) => {
             drop_front(pending, opening_size(pending.as_slice()));

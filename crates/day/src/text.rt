@@ -136,7 +136,7 @@ fn add_line(text: &mut String, call: Call, answer: Answer) -> Result<(), AllocEr
     write!(text, "{line}").or(Err(AllocError))
 }
 
-pub fn add_stop(text: &mut String, place: u64) -> Result<(), AllocError>
+pub(crate) fn add_stop(text: &mut String, place: u64) -> Result<(), AllocError>
     ensures { λ r. ⌜ made r (λ _. string-bytes (now (text .exit)) ≡ string-bytes (now (text .entry)) ++ stop-text place) ⌝ }
 {
     let stop = Stop(place);

@@ -3,9 +3,12 @@ ghost use mathlib.Core.Path.{_≡_};
 ghost use mathlib.Core.Bool.{cond};
 ghost use mathlib.Core.List.{[], _++_};
 ghost use Rattle.std.specs.Of.String.{string-bytes};
+ghost use Rattle.std.specs.Results.{Cases};
 ghost use Rattle.std.specs.Vec.{made};
 ghost use Rattle.day.specs.Text.{stop-text};
-ghost use Rattle.day.specs.Turning.{Turned};
+ghost use Rattle.day.specs.Turning.{Turned, Unfinished};
+ghost use Rattle.job.specs.Records.{ledger};
+ghost use Rattle.sheet.specs.Reading.{tree};
 use crate::bytes::words;
 use crate::decoding::decode;
 use crate::text::add_stop;
@@ -40,7 +43,7 @@ pub fn take_turn(
     place: u64,
     bytes: &[u8],
 ) -> Result<Turn, AllocError>
-    ensures { λ r. ⌜ made r (λ t. Turned (now (bytes .entry)) place (string-bytes (t .text)) (t .used) (t .stopped)) ⌝ }
+    ensures { λ r. ⌜ Cases r (λ t. Turned (tree (now (sheet .entry))) (ledger (now (job .entry))) (now (bytes .entry)) place (string-bytes (t .text)) (t .used) (t .stopped) (ledger (now (job .exit)))) (λ _. Unfinished (tree (now (sheet .entry))) (ledger (now (job .entry))) (now (bytes .entry)) (ledger (now (job .exit)))) ⌝ }
 {
     let here = words(heap, bytes)?;
     let batch = decode(heap, here.as_slice())?;

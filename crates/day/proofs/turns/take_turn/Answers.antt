@@ -1,4 +1,6 @@
-use mathlib.Core.Path.{_≡_, _∙_, subst}
+use mathlib.Core.Path.{_≡_, refl, _∙_, subst}
+use Rattle.std.proofs.shelf.Results.{err-from-errBy}
+use Rattle.day.proofs.Unfinished.{nothing-run}
 use mathlib.Core.List.{List}
 use Prim.Native.Nat.{ℕ}
 use borrow.Author.Needs.{needs}
@@ -17,8 +19,24 @@ returns c =
     record {
       calls = calls;
       answers = vec-items (c .in-Continue-answers .answers);
-      decoded = decoded;
-      counted = counted;
-      printed = search needs;
-      goes-on = decoded-on (c .args .bytes .now) calls stopped (c .len-used .result) counted decoded;
+      bytes-ask-for-the-calls = decoded;
+      job-runs-the-calls = rw (c .as-slice-2 .ensures .value) at (c .in-Continue-answers .ensures tt);
+      used-counts-the-calls = counted;
+      text-has-the-answers = search needs;
+      bytes-may-come-in-parts = decoded-on (c .args .bytes .now) calls stopped (c .len-used .result) counted decoded;
     }
+
+pub returns-in-Break-here : need.returns-in-Break-here
+returns-in-Break-here c =
+    let p = err-from-errBy (c .from-residual .result) (c .from-residual .ensures .1) in
+    rw (p .1) (nothing-run _ (c .args .job .now) (c .args .job .now) _ refl)
+
+pub returns-in-Break-batch : need.returns-in-Break-batch
+returns-in-Break-batch c =
+    let p = err-from-errBy (c .from-residual-in-Break-batch .result) (c .from-residual-in-Break-batch .ensures .1) in
+    rw (p .1) (nothing-run _ (c .args .job .now) (c .args .job .now) _ refl)
+
+pub returns-in-Break-answers : need.returns-in-Break-answers
+returns-in-Break-answers c =
+    let p = err-from-errBy (c .from-residual-in-Break-answers .result) (c .from-residual-in-Break-answers .ensures .1) in
+    rw (p .1) (nothing-run _ (c .args .job .now) (c .run .last .self) _ (c .in-Break-answers .ensures tt))
