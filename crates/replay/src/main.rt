@@ -1,4 +1,4 @@
-// Replays the days of the folder that it is run in, and names those that do not print what is expected.
+// Replays the days that the file `days` names, and names those that do not print what is expected.
 mod pipe;
 
 use crate::pipe::Pipe;
@@ -7,9 +7,6 @@ use day::run_day;
 use std::alloc::Global;
 use std::fs;
 use std::io;
-
-// Days are named by three digits.
-const MOST: u32 = 1000;
 
 // Whether the day prints what is expected when each read gives at most so many bytes.
 fn prints(heap: Global, day: &[u8], most: usize, expected: &[u8]) -> io::Result<bool> {
@@ -20,12 +17,12 @@ fn prints(heap: Global, day: &[u8], most: usize, expected: &[u8]) -> io::Result<
 }
 
 // Whether the day prints what is expected, however its bytes arrive.
-fn agrees(rt: &LibcRuntime, number: u32, day: &[u8]) -> io::Result<bool> {
+fn agrees(rt: &LibcRuntime, name: &str) -> io::Result<bool> {
     let heap = rt.alloc();
-    let name = format!(heap, "{number:03}.out")?;
-    let expected = fs::read(rt, name.as_str())?;
+    let day = fs::read(rt, format!(heap, "{name}.day")?.as_str())?;
+    let expected = fs::read(rt, format!(heap, "{name}.out")?.as_str())?;
     for most in [1, 7, 4096] {
-        if !prints(heap, day, most, expected.as_slice())? {
+        if !prints(heap, day.as_slice(), most, expected.as_slice())? {
             return Ok(false);
         }
     }
@@ -33,17 +30,13 @@ fn agrees(rt: &LibcRuntime, number: u32, day: &[u8]) -> io::Result<bool> {
 }
 
 fn main(rt: LibcRuntime) -> io::Result<()> {
-    let heap = rt.alloc();
+    let names = fs::read_to_string(&rt, "days")?;
     let mut count = 0u32;
-    for number in 0..MOST {
-        let name = format!(heap, "{number:03}.day")?;
-        let Ok(day) = fs::read(&rt, name.as_str()) else {
-            continue;
-        };
-        if agrees(&rt, number, day.as_slice())? {
+    for name in names.lines() {
+        if agrees(&rt, name)? {
             count = count.saturating_add(1);
         } else {
-            println!(rt, "{number:03} differs")?;
+            println!(rt, "{name} differs")?;
         }
     }
     println!(rt, "{count} days agree")
