@@ -19,7 +19,7 @@ use Rattle.job.specs.declared.faults.DoFault.the-variants.{Step, TrailFull}
 use Rattle.job.specs.declared.faults.StepFault.the-variants.{NoSuchStep, Struck, ConditionFalse, SetAndCleared}
 use Rattle.job.specs.Ledger.{Ledger, Happens, Does, Unmarked, most-done}
 use Rattle.job.specs.Moments.{Runs, Moment, Day-stands, Promised-list, opening, accepted, accepted-one, marked, marked-one}
-use Rattle.job.proofs.Runs.{runs-append}
+use Rattle.job.proofs.Runs.{runs-append, runs-decided}
 
 module _ (t : Tree) where
   -- one more step at the end of a row of steps
@@ -132,6 +132,7 @@ module _ (t : Tree) where
   promised-list l cs rs m h =
       record {
         answered-call-by-call = h;
+        no-other-answers = λ qs k other. runs-decided t l m k cs rs qs h other;
         leads-to-the-moment-after-the-list = λ ds qs moment. runs-append t (opening t) l m ds cs qs rs moment h;
         day-stands-after-the-list = λ ds qs moment. day-stands (ds ++ cs) (qs ++ rs) m (runs-append t (opening t) l m ds cs qs rs moment h);
       }

@@ -1,6 +1,6 @@
 -- Lists of calls put together.
 use mathlib.Core.List.{List, [], _∷_, _++_}
-use mathlib.Core.Path.{_≡_, refl, sym, subst, subst₂}
+use mathlib.Core.Path.{_≡_, refl, sym, ap₂, _∙_, subst, subst₂}
 use Prim.Native.Nat.{ℕ, _+_, _<_}
 use lib.ListN.{length, getD, take}
 use Rattle.std.proofs.shelf.Lists.{take-more}
@@ -8,6 +8,7 @@ use Rattle.sheet.specs.Trees.{Tree}
 use Rattle.job.specs.declared.calls.Answer.{Answer}
 use Rattle.job.specs.declared.calls.Call.{Call}
 use Rattle.job.specs.Ledger.{Ledger, Happens}
+use Rattle.job.proofs.Decided.{decided}
 use Rattle.job.specs.Moments.{Runs, Moment, opening, Promised}
 
 module _ (t : Tree) where
@@ -28,6 +29,7 @@ module _ (t : Tree) where
   promised l c a m h =
       record {
         answered-by-the-ledger = h;
+        no-other-answer = λ b k other. decided t l c a b m k h other;
         leads-to-the-next-moment = λ cs rs moment. runs-more (opening t) l m cs rs c a moment h;
       }
 
@@ -37,3 +39,15 @@ module _ (t : Tree) where
   runs-next l k m cs i d rs qs a within first h pushed =
       subst₂ (λ (xs : List Call) (ys : List Answer). Runs t l xs ys m) (sym (take-more cs i d within)) (sym pushed)
       (runs-more l k m (take i cs) rs (getD cs i d) a first h)
+
+  -- one list of calls has one list of answers, and one ledger after it
+  pub runs-decided : (l m n : Ledger) (cs : List Call) (rs qs : List Answer) → Runs t l cs rs m → Runs t l cs qs n → (qs ≡ rs) × (n ≡ m)
+  runs-decided l m n [] [] [] x y = (refl, y ∙ sym x)
+  runs-decided l m n [] [] (b ∷ qs) x y = absurd y
+  runs-decided l m n [] (a ∷ rs) qs x y = absurd x
+  runs-decided l m n (c ∷ cs) [] qs x y = absurd x
+  runs-decided l m n (c ∷ cs) (a ∷ rs) [] x y = absurd y
+  runs-decided l m n (c ∷ cs) (a ∷ rs) (b ∷ qs) x y =
+      let first = decided t l c a b (x .0) (y .0) (x .1) (y .1) in
+      let rest = runs-decided (x .0) m n cs rs qs (x .2) (subst (λ (k : Ledger). Runs t k cs qs n) (first .1) (y .2)) in
+      (ap₂ _∷_ (first .0) (rest .0), rest .1)

@@ -62,10 +62,12 @@ pub record Day-stands (t : Tree) (cs : List Call) (rs : List Answer) (l : Ledger
 -- what every call promises: its answer goes by the ledger before it, and a moment leads to the next one
 pub record Promised (t : Tree) (before : Ledger) (c : Call) (a : Answer) (after : Ledger) : Type 0 where
   pub answered-by-the-ledger : Happens t before c a after
+  pub no-other-answer : (b : Answer) (l : Ledger) → Happens t before c b l → (b ≡ a) × (l ≡ after)
   pub leads-to-the-next-moment : (cs : List Call) (rs : List Answer) → Moment t cs rs before → Moment t (cs ++ c ∷ []) (rs ++ a ∷ []) after
 
 -- what a list of calls promises, for every job and for one given this sheet from its opening on
 pub record Promised-list (t : Tree) (before : Ledger) (cs : List Call) (rs : List Answer) (after : Ledger) : Type 0 where
   pub answered-call-by-call : Runs t before cs rs after
+  pub no-other-answers : (qs : List Answer) (l : Ledger) → Runs t before cs qs l → (qs ≡ rs) × (l ≡ after)
   pub leads-to-the-moment-after-the-list : (ds : List Call) (qs : List Answer) → Moment t ds qs before → Moment t (ds ++ cs) (qs ++ rs) after
   pub day-stands-after-the-list : (ds : List Call) (qs : List Answer) → Moment t ds qs before → Day-stands t (ds ++ cs) (qs ++ rs) after
