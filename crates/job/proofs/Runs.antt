@@ -1,13 +1,19 @@
 -- Lists of calls put together.
+use mathlib.Core.Bool.{Bool, true, false}
 use mathlib.Core.List.{List, [], _∷_, _++_}
 use mathlib.Core.Path.{_≡_, refl, sym, ap₂, _∙_, subst, subst₂}
-use Prim.Native.Nat.{ℕ, _+_, _<_}
+use Prim.Native.Nat.{ℕ, _+_, _<_, _≤_}
 use lib.ListN.{length, getD, take}
 use Rattle.std.proofs.shelf.Lists.{take-more}
 use Rattle.sheet.specs.Trees.{Tree}
 use Rattle.job.specs.declared.calls.Answer.{Answer}
+use Rattle.job.specs.declared.calls.Answer.the-variants.{Done, Refused}
 use Rattle.job.specs.declared.calls.Call.{Call}
-use Rattle.job.specs.Ledger.{Ledger, Happens}
+use Rattle.job.specs.declared.calls.Call.the-variants.{Strike, Allow}
+use Rattle.job.specs.declared.faults.DoFault.the-variants.{Step}
+use Rattle.job.specs.declared.faults.StepFault.the-variants.{NoSuchStep}
+use Rattle.job.specs.Answers.{marking}
+use Rattle.job.specs.Ledger.{Ledger, Happens, Marks}
 use Rattle.job.proofs.Decided.{decided}
 use Rattle.job.specs.Moments.{Runs, Moment, opening, Promised}
 
@@ -51,3 +57,11 @@ module _ (t : Tree) where
       let first = decided t l c a b (x .0) (y .0) (x .1) (y .1) in
       let rest = runs-decided (x .0) m n cs rs qs (x .2) (subst (λ (k : Ledger). Runs t k cs qs n) (first .1) (y .2)) in
       (ap₂ _∷_ (first .0) (rest .0), rest .1)
+
+  pub promised-mark : (l : Ledger) (k : ℕ) (mark : Bool) (m : Ledger) → Marks t l k mark m → Promised t l (marking mark k) Done m
+  promised-mark l k true m h = promised l (Strike k) Done m h
+  promised-mark l k false m h = promised l (Allow k) Done m h
+
+  pub promised-unmarked : (l : Ledger) (k : ℕ) (mark : Bool) → length (t .steps) ≤ k → Promised t l (marking mark k) (Refused (Step NoSuchStep)) l
+  promised-unmarked l k true past = promised l (Strike k) (Refused (Step NoSuchStep)) l (past, refl)
+  promised-unmarked l k false past = promised l (Allow k) (Refused (Step NoSuchStep)) l (past, refl)

@@ -10,11 +10,11 @@ use Rattle.job.specs.declared.trail.Trail.{Trail}
 use Rattle.job.specs.declared.jobs.Job.{Job}
 use Rattle.job.specs.Ledger.{Ledger}
 
-abbrev pub struck : Strikes → ℕ → Bool
-struck s k = bit (s .bits) k
+abbrev pub struck-in : Strikes → ℕ → Bool
+struck-in s k = bit (s .bits) k
 
 abbrev pub done : Trail → List ℕ
 done t = take (t .len) (t .steps)
 
 abbrev pub ledger : Job → Ledger
-ledger j = record { state = holds (j .state); struck = struck (j .strikes); done = done (j .trail) }
+ledger j = record { state = holds (j .state); struck = struck-in (j .strikes); done = done (j .trail) }

@@ -4,7 +4,7 @@ ghost use Prim.Native.Nat.{_<_};
 ghost use Rattle.std.specs.Vec.{made};
 ghost use Rattle.sheet.specs.Reading.{tree};
 ghost use Rattle.job.specs.declared.calls.Call.the-variants.{Do, Strike, Allow};
-ghost use Rattle.job.specs.Answers.{answer-to-do, answer-to-mark};
+ghost use Rattle.job.specs.Answers.{answer-to-do, answer-to-mark, marking};
 ghost use Rattle.job.specs.Attempts.{Attempted};
 ghost use Rattle.job.specs.Moments.{opening, Promised};
 ghost use Rattle.job.specs.Records.{ledger};
@@ -57,23 +57,26 @@ impl Job {
         Ok(())
     }
 
-    pub fn strike(&mut self, sheet: &Sheet<'_>, step: u32) -> Result<(), StepFault>
-        ensures { λ r. ⌜ Promised (tree (now (sheet .entry))) (ledger (now (self .entry))) (Strike step) (answer-to-mark r) (ledger (now (self .exit))) ⌝ }
+    // Marks a step of the sheet struck or allowed, also where it is so already.
+    fn mark(&mut self, sheet: &Sheet<'_>, step: u32, struck: bool) -> Result<(), StepFault>
+        ensures { λ r. ⌜ Promised (tree (now (sheet .entry))) (ledger (now (self .entry))) (marking struck step) (answer-to-mark r) (ledger (now (self .exit))) ⌝ }
     {
         if step >= sheet.steps() {
             return Err(StepFault::NoSuchStep);
         }
-        self.strikes = self.strikes.with(step);
+        self.strikes = self.strikes.marked(step, struck);
         Ok(())
+    }
+
+    pub fn strike(&mut self, sheet: &Sheet<'_>, step: u32) -> Result<(), StepFault>
+        ensures { λ r. ⌜ Promised (tree (now (sheet .entry))) (ledger (now (self .entry))) (Strike step) (answer-to-mark r) (ledger (now (self .exit))) ⌝ }
+    {
+        self.mark(sheet, step, true)
     }
 
     pub fn allow(&mut self, sheet: &Sheet<'_>, step: u32) -> Result<(), StepFault>
         ensures { λ r. ⌜ Promised (tree (now (sheet .entry))) (ledger (now (self .entry))) (Allow step) (answer-to-mark r) (ledger (now (self .exit))) ⌝ }
     {
-        if step >= sheet.steps() {
-            return Err(StepFault::NoSuchStep);
-        }
-        self.strikes = self.strikes.without(step);
-        Ok(())
+        self.mark(sheet, step, false)
     }
 }

@@ -1,9 +1,9 @@
 // Which steps are struck.
-ghost use mathlib.Core.Bool.{true, false};
+ghost use mathlib.Core.Bool.{false};
 ghost use mathlib.Core.Path.{_≡_};
 ghost use Prim.Native.Nat.{ℕ, _<_};
 ghost use Rattle.bits.specs.Bits.{put};
-ghost use Rattle.job.specs.Records.{struck};
+ghost use Rattle.job.specs.Records.{struck-in};
 
 #[derive(Clone, Copy)]
 pub struct Strikes {
@@ -12,32 +12,29 @@ pub struct Strikes {
 
 impl Strikes {
     pub(crate) fn none() -> Strikes
-        ensures { λ r. ⌜ ((k : ℕ) → struck r k ≡ false) ⌝ }
+        ensures { λ r. ⌜ ((k : ℕ) → struck-in r k ≡ false) ⌝ }
     {
         Strikes { bits: bits::none() }
     }
 
     pub(crate) fn contains(self, step: u32) -> bool
-        ensures { λ r. ⌜ r ≡ struck self step ⌝ }
+        ensures { λ r. ⌜ r ≡ struck-in self step ⌝ }
     {
         bits::has(self.bits, step)
     }
 
-    pub(crate) fn with(self, step: u32) -> Strikes
+    pub(crate) fn marked(self, step: u32, struck: bool) -> Strikes
         requires { ⌜ step < 64 ⌝ }
-        ensures { λ r. ⌜ struck r ≡ put (struck self) step true ⌝ }
+        ensures { λ r. ⌜ struck-in r ≡ put (struck-in self) step struck ⌝ }
     {
-        Strikes {
-            bits: bits::with(self.bits, step),
-        }
-    }
-
-    pub(crate) fn without(self, step: u32) -> Strikes
-        requires { ⌜ step < 64 ⌝ }
-        ensures { λ r. ⌜ struck r ≡ put (struck self) step false ⌝ }
-    {
-        Strikes {
-            bits: bits::without(self.bits, step),
+        if struck {
+            Strikes {
+                bits: bits::with(self.bits, step),
+            }
+        } else {
+            Strikes {
+                bits: bits::without(self.bits, step),
+            }
         }
     }
 }
