@@ -7,7 +7,7 @@ use lib.ListN.{length}
 use Rattle.std.proofs.shelf.Parts.{first-rest}
 use Rattle.sheet.specs.Trees.{Tree, step-at}
 use Rattle.sheet.specs.Encoding.{encode-formula, encode-effect}
-use Rattle.sheet.specs.Reading.{Step-part}
+use Rattle.sheet.specs.Reading.{Step-part, behind-step}
 use Rattle.execution.specs.Reading.{Formula-first, Effect-first}
 use Rattle.execution.proofs.WordLaws.{behind, other-words}
 
@@ -15,7 +15,7 @@ module _ (t : Tree) (k : ℕ) (part : List ℕ) (found : Step-part t k part) whe
   pub part-nonempty : 0 < length part
   part-nonempty = omega (arith, ap length (found .begins))
 
-  pub condition-first : Formula-first (behind part) (step-at t k .condition) (encode-effect (step-at t k .effect) ++ found .tail)
+  pub condition-first : Formula-first (behind part) (step-at t k .condition) (encode-effect (step-at t k .effect) ++ behind-step t k)
   condition-first =
       record {
         facts = t .facts;
@@ -24,10 +24,10 @@ module _ (t : Tree) (k : ℕ) (part : List ℕ) (found : Step-part t k part) whe
         lawful = found .step-lawful .condition-lawful;
         encoded =
             other-words (sym (first-rest part 0 part-nonempty) ∙ found .begins)
-            ∙ append-assoc (encode-formula (step-at t k .condition)) (encode-effect (step-at t k .effect)) (found .tail);
+            ∙ append-assoc (encode-formula (step-at t k .condition)) (encode-effect (step-at t k .effect)) (behind-step t k);
       }
 
-  pub effect-first : (rest : List ℕ) → rest ≡ encode-effect (step-at t k .effect) ++ found .tail → Effect-first rest (step-at t k .effect) (found .tail)
+  pub effect-first : (rest : List ℕ) → rest ≡ encode-effect (step-at t k .effect) ++ behind-step t k → Effect-first rest (step-at t k .effect) (behind-step t k)
   effect-first rest h =
       record {
         facts = t .facts;

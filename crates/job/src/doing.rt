@@ -7,7 +7,7 @@ ghost use Rattle.job.specs.declared.calls.Call.the-variants.{Do, Strike, Allow
 ghost use Rattle.job.specs.Answers.{answer-to-do, answer-to-mark, marking};
 ghost use Rattle.job.specs.Attempts.{Attempted};
 ghost use Rattle.job.specs.Moments.{opening, Promised};
-ghost use Rattle.job.specs.Records.{ledger};
+ghost use Rattle.job.specs.Records.{ledger, Refusal-keeps};
 use crate::faults::DoFault;
 use crate::faults::DoFaultFromStep;
 use crate::faults::StepFault;
@@ -46,7 +46,8 @@ impl Job {
 
     // Does an allowed step and puts it on the trail.
     pub fn do_step(&mut self, sheet: &Sheet<'_>, step: u32) -> Result<(), DoFault>
-        ensures { λ r. ⌜ Promised (tree (now (sheet .entry))) (ledger (now (self .entry))) (Do step) (answer-to-do r) (ledger (now (self .exit))) ⌝ }
+        ensures promised { λ r. ⌜ Promised (tree (now (sheet .entry))) (ledger (now (self .entry))) (Do step) (answer-to-do r) (ledger (now (self .exit))) ⌝ }
+        ensures kept { λ r. ⌜ Refusal-keeps (answer-to-do r) (now (self .entry)) (now (self .exit)) ⌝ }
     {
         let next = self.attempt(sheet, step)?;
         if self.trail.is_full() {
@@ -59,7 +60,8 @@ impl Job {
 
     // Marks a step of the sheet struck or allowed, also where it is so already.
     fn mark(&mut self, sheet: &Sheet<'_>, step: u32, struck: bool) -> Result<(), StepFault>
-        ensures { λ r. ⌜ Promised (tree (now (sheet .entry))) (ledger (now (self .entry))) (marking struck step) (answer-to-mark r) (ledger (now (self .exit))) ⌝ }
+        ensures promised { λ r. ⌜ Promised (tree (now (sheet .entry))) (ledger (now (self .entry))) (marking struck step) (answer-to-mark r) (ledger (now (self .exit))) ⌝ }
+        ensures kept { λ r. ⌜ Refusal-keeps (answer-to-mark r) (now (self .entry)) (now (self .exit)) ⌝ }
     {
         if step >= sheet.steps() {
             return Err(StepFault::NoSuchStep);
@@ -69,13 +71,15 @@ impl Job {
     }
 
     pub fn strike(&mut self, sheet: &Sheet<'_>, step: u32) -> Result<(), StepFault>
-        ensures { λ r. ⌜ Promised (tree (now (sheet .entry))) (ledger (now (self .entry))) (Strike step) (answer-to-mark r) (ledger (now (self .exit))) ⌝ }
+        ensures promised { λ r. ⌜ Promised (tree (now (sheet .entry))) (ledger (now (self .entry))) (Strike step) (answer-to-mark r) (ledger (now (self .exit))) ⌝ }
+        ensures kept { λ r. ⌜ Refusal-keeps (answer-to-mark r) (now (self .entry)) (now (self .exit)) ⌝ }
     {
         self.mark(sheet, step, true)
     }
 
     pub fn allow(&mut self, sheet: &Sheet<'_>, step: u32) -> Result<(), StepFault>
-        ensures { λ r. ⌜ Promised (tree (now (sheet .entry))) (ledger (now (self .entry))) (Allow step) (answer-to-mark r) (ledger (now (self .exit))) ⌝ }
+        ensures promised { λ r. ⌜ Promised (tree (now (sheet .entry))) (ledger (now (self .entry))) (Allow step) (answer-to-mark r) (ledger (now (self .exit))) ⌝ }
+        ensures kept { λ r. ⌜ Refusal-keeps (answer-to-mark r) (now (self .entry)) (now (self .exit)) ⌝ }
     {
         self.mark(sheet, step, false)
     }

@@ -5,7 +5,7 @@ ghost use mathlib.Core.Path.{_≡_};
 ghost use Rattle.sheet.specs.Reading.{tree};
 ghost use Rattle.job.specs.Answers.{answer-to-do, answer-to-mark};
 ghost use Rattle.job.specs.Moments.{Promised, Promised-list};
-ghost use Rattle.job.specs.Records.{ledger};
+ghost use Rattle.job.specs.Records.{ledger, Refusal-keeps};
 use crate::calls::Answer;
 use crate::calls::Call;
 use crate::faults::DoFault;
@@ -36,7 +36,8 @@ fn answer_to_mark(result: Result<(), StepFault>) -> Answer
 impl Job {
     // Makes one call and tells what it is answered.
     pub fn answer(&mut self, sheet: &Sheet<'_>, call: Call) -> Answer
-        ensures { λ r. ⌜ Promised (tree (now (sheet .entry))) (ledger (now (self .entry))) call r (ledger (now (self .exit))) ⌝ }
+        ensures promised { λ r. ⌜ Promised (tree (now (sheet .entry))) (ledger (now (self .entry))) call r (ledger (now (self .exit))) ⌝ }
+        ensures kept { λ r. ⌜ Refusal-keeps r (now (self .entry)) (now (self .exit)) ⌝ }
     {
         match call {
             Call::Do(step) => answer_to_do(self.do_step(sheet, step)),

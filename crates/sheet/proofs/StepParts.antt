@@ -12,7 +12,7 @@ use Rattle.sheet.specs.Trees.{Tree, Step, idle, step-at}
 use Rattle.sheet.specs.Encoding.{encode-step}
 use Rattle.sheet.specs.Lawful.{Each, Lawful-step}
 use Rattle.sheet.specs.Places.{from-step}
-use Rattle.sheet.specs.Reading.{tree, Step-part}
+use Rattle.sheet.specs.Reading.{tree, Step-part, behind-step}
 use Rattle.sheet.proofs.Readings.{viewed}
 use Rattle.sheet.proofs.StepPlace.{step-begins}
 use Rattle.sheet.proofs.StepSearch.{from-past}
@@ -23,10 +23,8 @@ each-at P (x ∷ xs) h zero d lt = h .0
 each-at P (x ∷ xs) h (suc k) d lt = each-at P xs (h .1) k d (omega arith)
 
 module _ (s : Sheet) (k : ℕ) where
-  begins-at : k < length (tree s .steps) → (tail : List ℕ) × (from-step k (s .words .now) ≡ encode-step (step-at (tree s) k) ++ tail)
-  begins-at lt =
-      let b = step-begins (tree s) (viewed s .lawful) k lt idle in
-      (b .0, ap (from-step k) (sym (viewed s .encoded)) ∙ b .1)
+  begins-at : k < length (tree s .steps) → from-step k (s .words .now) ≡ encode-step (step-at (tree s) k) ++ behind-step (tree s) k
+  begins-at lt = ap (from-step k) (sym (viewed s .encoded)) ∙ step-begins (tree s) (viewed s .lawful) k lt idle
 
   -- words that are found belong to a step
   pub found-on-sheet : (i : ℕ) → i < length (s .words .now) → from-step k (s .words .now) ≡ drop i (s .words .now) → k < length (tree s .steps)
@@ -41,11 +39,9 @@ module _ (s : Sheet) (k : ℕ) where
       Step-part (tree s) k (take (length (s .words .now) - i) (drop i (s .words .now)))
   found-part i within found =
       let lt = found-on-sheet i within found in
-      let b = begins-at lt in
       record {
         on-the-sheet = lt;
-        tail = b .0;
-        begins = take-rest (s .words .now) i ∙ sym found ∙ b .1;
+        begins = take-rest (s .words .now) i ∙ sym found ∙ begins-at lt;
         facts-within = viewed s .lawful .facts-within;
         step-lawful = each-at (Lawful-step (tree s .facts)) (tree s .steps) (viewed s .lawful .steps-lawful) k idle lt;
       }
@@ -54,8 +50,7 @@ module _ (s : Sheet) (k : ℕ) where
   found-nothing none =
       ⊎-elim
       (λ lt.
-      let b = begins-at lt in
-      let e : encode-step (step-at (tree s) k) ++ b .0 ≡ [] = sym (b .1) ∙ none in
-      absurd (omega (arith, ap length e)))
+        let e : encode-step (step-at (tree s) k) ++ behind-step (tree s) k ≡ [] = sym (begins-at lt) ∙ none in
+        absurd (omega (arith, ap length e)))
       (λ past. past)
       (cases-lt k (length (tree s .steps)))

@@ -11,6 +11,7 @@ use Rattle.sheet.specs.Kinds.{row}
 use Rattle.sheet.specs.Trees.{Formula, Formulas, Effect, Effects, Step, Tree, never, always, fact, not, all, any, set, clear, group, when, count-formulas, count-effects}
 use Rattle.sheet.specs.Encoding.{word, encode-formula, encode-formulas, encode-effect, encode-effects, encode-step, encode-starts, encode-steps, encode-goals, encode}
 use Rattle.sheet.specs.Lawful.{Lawful-formula, Lawful-formulas, Lawful-effect, Lawful-effects, Lawful-step, Each, Ascending, Lawful}
+use Rattle.sheet.specs.Reading.{behind-step}
 use Rattle.sheet.specs.Places.{is-step, reach-step, from-step}
 use Rattle.sheet.proofs.WordLaws.{row-word}
 use Rattle.sheet.proofs.PartsPay.{work-small}
@@ -104,11 +105,8 @@ steps-at t h k l = to-steps t h k ∙ steps-from (t .facts) (h .facts-within) (c
 
 -- the words of a step stand from its STEP on
 pub step-begins : (t : Tree) → Lawful t → (k : ℕ) → k < length (t .steps) → (d : Step)
-    → (tail : List ℕ) × (from-step k (encode t) ≡ encode-step (getD (t .steps) k d) ++ tail)
+    → from-step k (encode t) ≡ encode-step (getD (t .steps) k d) ++ behind-step t k
 step-begins t h k l d =
-    let rest : List Step = drop (k + 1) (t .steps) in (
-      encode-steps rest ++ closing t,
-      steps-at t h k l
-          ∙ ap (λ xs. encode-steps xs ++ closing t) (drop-more (t .steps) k d l)
-          ∙ append-assoc (encode-step (getD (t .steps) k d)) (encode-steps rest) (closing t),
-    )
+    steps-at t h k l
+    ∙ ap (λ xs. encode-steps xs ++ closing t) (drop-more (t .steps) k d l)
+    ∙ append-assoc (encode-step (getD (t .steps) k d)) (encode-steps (drop (k + 1) (t .steps))) (closing t)

@@ -16,7 +16,7 @@ loop-call-again c =
     let pushed = c .push-reserved .ensures in (
       omega (arith, pushed .capacity, c .loop-call .inv .0),
       omega (arith, pushed .len, c .loop-call .inv .1),
-      runs-next _ _ _ _ _ _ _ _ _ _ (c .loop-call-test .taken) (c .loop-call .inv .2) (c .answer-answer .ensures .answered-by-the-ledger) (pushed .items),
+      runs-next _ _ _ _ _ _ _ _ _ _ (c .loop-call-test .taken) (c .loop-call .inv .2) (c .answer-answer .ensures .promised .answered-by-the-ledger) (pushed .items),
     )
 
 pub returns : need.returns
