@@ -1,4 +1,4 @@
-// What a job holds.
+// A job: one repair at a stall, from its opening on.
 use crate::strikes::Strikes;
 use crate::trail::Trail;
 use execution::State;

@@ -1,4 +1,4 @@
-// Which steps are struck.
+// Which steps are struck: a struck step is not done until it is allowed again.
 ghost use mathlib.Core.Bool.{false};
 ghost use mathlib.Core.Path.{_≡_};
 ghost use Prim.Native.Nat.{ℕ, _<_};

@@ -1,4 +1,4 @@
-// The steps done, in their order: at most two hundred.
+// The trail: the steps done, in their order, at most two hundred.
 ghost use Prim.Native.Nat.{_≤_};
 
 #[derive(Clone, Copy)]

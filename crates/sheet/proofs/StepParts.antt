@@ -50,7 +50,7 @@ module _ (s : Sheet) (k : ℕ) where
   found-nothing none =
       ⊎-elim
       (λ lt.
-        let e : encode-step (step-at (tree s) k) ++ behind-step (tree s) k ≡ [] = sym (begins-at lt) ∙ none in
-        absurd (omega (arith, ap length e)))
+      let e : encode-step (step-at (tree s) k) ++ behind-step (tree s) k ≡ [] = sym (begins-at lt) ∙ none in
+      absurd (omega (arith, ap length e)))
       (λ past. past)
       (cases-lt k (length (tree s .steps)))

@@ -100,10 +100,10 @@ pub(crate) fn follow<'a>(
         Follows::Formula => one(words, Sort::Formula, depth, facts),
         Follows::Formulas => members(words, Sort::Formula, count, depth, facts),
         Follows::Effects => members(words, Sort::Effect, count, depth, facts),
-        Follows::Guarded => match one(words, Sort::Formula, depth, facts) {
-            Ok(rest) => one(rest, Sort::Effect, depth, facts),
-            Err(stop) => Err(stop),
-        },
+        Follows::Guarded => {
+            let rest = one(words, Sort::Formula, depth, facts)?;
+            one(rest, Sort::Effect, depth, facts)
+        }
     }
 }
 
@@ -119,10 +119,7 @@ fn members<'a>(
 {
     let mut rest = words;
     for _done in 0..count {
-        match one(rest, sort, depth, facts) {
-            Ok(behind) => rest = behind,
-            Err(stop) => return Err(stop),
-        }
+        rest = one(rest, sort, depth, facts)?;
     }
     Ok(rest)
 }

@@ -23,7 +23,7 @@ pub enum Kind {
     Unused,
 }
 
-// What the 28 bits below the kind may hold.
+// What the 28 bits below the kind may hold; work is a step's minutes and grade.
 #[derive(Clone, Copy)]
 pub enum Argument {
     Zero,
@@ -33,7 +33,7 @@ pub enum Argument {
     Facts,
 }
 
-// What comes right behind a word and belongs to it.
+// What comes right behind a word and belongs to it; guarded is a formula and then an effect.
 #[derive(Clone, Copy)]
 pub enum Follows {
     Nothing,

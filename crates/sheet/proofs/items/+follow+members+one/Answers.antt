@@ -3,18 +3,21 @@ use mathlib.Core.Path.{ap₂}
 use Prim.Native.Nat.{_+_, _≤_, _<_}
 use native.Mathlib.Omega.{arith}
 use lib.ListN.{length}
+use Rattle.std.proofs.shelf.Results.{err-from-errBy}
 use Rattle.std.proofs.shelf.Parts.{first-rest}
 use Rattle.sheet.specs.Survey.{item}
 use Rattle.sheet.proofs.Paying.{unpaid-end, unpaid-word, reads-word, shorter-word, member-paid, member-unpaid}
 use Rattle.sheet.proofs.items.+follow+members+one.Needs as need
 
-pub members-returns-in-Err : need.members-returns-in-Err
-members-returns-in-Err t c =
-    record { reads = member-unpaid _ _ _ _ _ _ (c .loop-done .inv .1) (c .loop-done-test .taken) (c .loop-done .inv .0) _ (c .in-Err .ensures tt .reads) }
+pub members-returns-in-Break-rest : need.members-returns-in-Break-rest
+members-returns-in-Break-rest t c =
+    let p = err-from-errBy (c .from-residual .result) (c .from-residual .ensures .1) in
+    rw (p .1, p .2)
+    (record { reads = member-unpaid _ _ _ _ _ _ (c .loop-done .inv .1) (c .loop-done-test .taken) (c .loop-done .inv .0) _ (c .in-Break-rest .ensures tt .reads) })
 
 pub members-loop-done-again : need.members-loop-done-again
 members-loop-done-again t c =
-    let p = c .in-Ok .ensures tt .reads in
+    let p = c .in-Continue-rest .ensures tt .reads in
     (omega (arith, p .shorter, c .loop-done .inv .0), member-paid _ _ _ _ _ _ (c .loop-done .inv .1) (c .loop-done-test .taken) _ p)
 
 pub one-returns-in-rest : need.one-returns-in-rest

@@ -19,13 +19,13 @@ returns c =
     let tried = c .in-Continue-next .ensures tt .attempted in
     record {
       promised =
-        promised _ _ _ _ _
-        (record {
-          ready = tried .0;
-          room = leb-false _ _ (sym (c .if-is-full .ensures tt));
-          state-follows = tried .1;
-          strikes-stay = refl;
-          step-comes-last = c .push .ensures;
-        });
+          promised _ _ _ _ _
+          (record {
+            ready = tried .0;
+            room = leb-false _ _ (sym (c .if-is-full .ensures tt));
+            state-follows = tried .1;
+            strikes-stay = refl;
+            step-comes-last = c .push .ensures;
+          });
       kept = tt;
     }

@@ -14,12 +14,12 @@ pub returns : need.returns
 returns c =
     record {
       promised =
-        promised-mark _ _ _ (c .args .struck) _
-        (record {
-          on-the-sheet = omega (arith, c .steps .ensures .counted);
-          state-stays = refl;
-          step-is-marked = c .marked-self .ensures;
-          done-stay = refl;
-        });
+          promised-mark _ _ _ (c .args .struck) _
+          (record {
+            on-the-sheet = omega (arith, c .steps .ensures .counted);
+            state-stays = refl;
+            step-is-marked = c .marked-self .ensures;
+            done-stay = refl;
+          });
       kept = tt;
     }
