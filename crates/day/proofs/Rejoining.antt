@@ -35,11 +35,11 @@ encode-append : (cs ds : List Call) → joined encode-call (cs ++ ds) ≡ joined
 encode-append [] ds = refl
 encode-append (c ∷ cs) ds = ap (λ (ws : List ℕ). encode-call c ++ ws) (encode-append cs ds)
 
-length-encoded : (cs : List Call) → length (joined encode-call cs) ≡ length cs
+pub length-encoded : (cs : List Call) → length (joined encode-call cs) ≡ length cs
 length-encoded [] = refl
 length-encoded (c ∷ cs) = ap suc (length-encoded cs)
 
-whole-calls : (ws : List ℕ) (cs : List Call) → Decoded ws cs false → ws ≡ joined encode-call cs
+pub whole-calls : (ws : List ℕ) (cs : List Call) → Decoded ws cs false → ws ≡ joined encode-call cs
 whole-calls ws cs x =
     x .whole ∙ ap (λ (r : List ℕ). joined encode-call cs ++ r) (x .ends) ∙ append-nil (joined encode-call cs)
 

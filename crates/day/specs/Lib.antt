@@ -3,3 +3,4 @@ pub mod Calls
 pub mod Text
 pub mod Opening
 pub mod Turning
+pub mod Sessions

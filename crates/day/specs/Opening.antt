@@ -28,5 +28,8 @@ too-many = record { cause = Cause.TooManyWords; place = 4096; part = Part.Head }
 abbrev pub Opened : List ℕ → Opening → Type 0
 Opened bs (Stopped n) = (length bs < opening-size bs) × (n ≡ length bs / 4)
 Opened bs (Refused f) = (4 ≤ length bs) × (4096 < sheet-count bs) × (f ≡ too-many)
-Opened bs (Sheet ws) =
-    (opening-size bs ≤ length bs) × (sheet-count bs ≤ 4096) × (vec-items ws ≡ whole-words (take (4 * sheet-count bs) (drop 4 bs)))
+Opened bs (Sheet ws calls) =
+    (opening-size bs ≤ length bs)
+    × (sheet-count bs ≤ 4096)
+    × (vec-items ws ≡ whole-words (take (4 * sheet-count bs) (drop 4 bs)))
+    × (calls .now ≡ drop (opening-size bs) bs)

@@ -18,7 +18,7 @@ pub struct Batch {
     pub stopped: bool,
 }
 
-pub fn call_of(word: u32) -> Option<Call>
+pub(crate) fn call_of(word: u32) -> Option<Call>
     ensures { λ r. ⌜ BySome r ((c : JobCall) → fits word c → ⊥) (λ c. fits word c) ⌝ }
 {
     let step = word % 0x1000_0000;

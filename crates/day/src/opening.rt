@@ -9,12 +9,12 @@ use sheet::SheetFault;
 use std::alloc::AllocError;
 use std::alloc::Global;
 
-// The place of the word that is missing or cut, the refusal of too many words, or the sheet's words.
+// The place of the word that is missing or cut, the refusal of too many words, or the sheet's words and the bytes behind.
 #[derive(Drop)]
-pub enum Opening {
+pub enum Opening<'a> {
     Stopped(u64),
     Refused(SheetFault),
-    Sheet(Vec<u32>),
+    Sheet(Vec<u32>, &'a [u8]),
 }
 
 fn sheet_count(bytes: &[u8]) -> u32
@@ -27,7 +27,7 @@ fn sheet_count(bytes: &[u8]) -> u32
 }
 
 // How many bytes open the day, as far as these tell.
-pub fn opening_size(bytes: &[u8]) -> usize
+pub(crate) fn opening_size(bytes: &[u8]) -> usize
     ensures { λ r. ⌜ r ≡ opening-size (now (bytes .entry)) ⌝ }
 {
     let count = sheet_count(bytes);
@@ -38,7 +38,7 @@ pub fn opening_size(bytes: &[u8]) -> usize
     }
 }
 
-pub fn open(heap: Global, bytes: &[u8]) -> Result<Opening, AllocError>
+pub fn open<'a>(heap: Global, bytes: &'a [u8]) -> Result<Opening<'a>, AllocError>
     ensures { λ r. ⌜ made r (Opened (now (bytes .entry))) ⌝ }
 {
     let size = opening_size(bytes);
@@ -53,5 +53,6 @@ pub fn open(heap: Global, bytes: &[u8]) -> Result<Opening, AllocError>
         };
         return Ok(Opening::Refused(fault));
     }
-    Ok(Opening::Sheet(words(heap, &bytes[4..size])?))
+    let sheet = words(heap, &bytes[4..size])?;
+    Ok(Opening::Sheet(sheet, &bytes[size..]))
 }

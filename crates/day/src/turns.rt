@@ -36,7 +36,7 @@ fn add_end(text: &mut String, stopped: bool, place: u64) -> Result<(), AllocErro
 }
 
 // The bytes begin with the word of this place.
-pub fn take_turn(
+pub(crate) fn take_turn(
     heap: Global,
     sheet: &Sheet<'_>,
     job: &mut Job,

@@ -117,7 +117,7 @@ module _ (t : Tree) where
     struck-along l (c ∷ cs) (a ∷ rs) m h =
         struck-along (h .0) cs rs m (h .2) ∙ ap (λ (b : Bool). marked t k b cs) (struck-after l c a (h .0) (h .1))
 
-  day-stands : (cs : List Call) (rs : List Answer) (l : Ledger) → Moment t cs rs l → Day-stands t cs rs l
+  pub day-stands : (cs : List Call) (rs : List Answer) (l : Ledger) → Moment t cs rs l → Day-stands t cs rs l
   day-stands cs rs l moment =
       let kept = kept-along (opening t) cs rs l moment (record { made = refl; few = omega arith }) in
       record {

@@ -3,6 +3,7 @@ use mathlib.Core.List.{List}
 use Prim.Native.Nat.{ℕ, _-_, _*_, _≤_}
 use native.Mathlib.Omega.{arith}
 use lib.ListN.{length, take, drop}
+use Rattle.std.proofs.shelf.Lists.{take-rest}
 use Rattle.std.proofs.shelf.Ways.{tells}
 use Rattle.day.specs.Bytes.{whole-words}
 use Rattle.day.specs.Opening.{sheet-count, opening-size}
@@ -16,6 +17,7 @@ returns c =
     let few : sheet-count (c .args .bytes .now) ≤ 4096 = subst (λ n. n ≤ 4096) (c .sheet-count .ensures) (c .if-sheet-count-gt4096 .left) in (
       subst (λ n. n ≤ length (c .args .bytes .now)) (c .opening-size-size .ensures) (c .if-bytes-size .left),
       few,
-      c .in-Continue-words .ensures tt
+      c .in-Continue-sheet .ensures tt
           ∙ ap (λ (n : ℕ). whole-words (take n (drop 4 (c .args .bytes .now)))) (sheet-bytes (c .args .bytes .now) (c .opening-size-size .result) (c .opening-size-size .ensures) few),
+      take-rest (c .args .bytes .now) (c .opening-size-size .result) ∙ ap (λ (n : ℕ). drop n (c .args .bytes .now)) (c .opening-size-size .ensures),
     )

@@ -1,19 +1,12 @@
-use mathlib.Core.Path.{_≡_, sym, _∙_, ap}
+use mathlib.Core.Path.{_≡_, _∙_, ap}
 use mathlib.Core.List.{List, _++_}
 use Prim.Native.Nat.{ℕ, _-_, min}
-use native.Mathlib.Decide.{decLe}
 use native.Mathlib.Omega.{arith}
 use lib.ListN.{length, take, drop, length-drop}
 use Rattle.std.specs.Of.Vec.{vec-items}
-use Rattle.std.proofs.shelf.Lists.{take-at, drop-all}
-use Rattle.day.proofs.driver.drop_front.Needs as need
-
-drop-min : (xs : List ℕ) (n cut : ℕ) → cut ≡ min n (length xs) → drop cut xs ≡ drop n xs
-drop-min xs n cut is =
-    elim (decLe n (length xs)) [
-      | yes h ↦ ap (λ (k : ℕ). drop k xs) (omega arith)
-      | no h ↦ drop-all cut xs (omega arith) ∙ sym (drop-all n xs (omega arith))
-    ]
+use Rattle.std.proofs.shelf.Lists.{take-at}
+use Rattle.day.proofs.Drops.{drop-capped}
+use Rattle.day.proofs.sessions.drop_front.Needs as need
 
 cut-front : (xs turned kept : List ℕ) (n len cut : ℕ) → len ≡ length xs → cut ≡ min n len → turned ≡ drop cut xs ++ take cut xs → kept ≡ take (len - cut) turned → kept ≡ drop n xs
 cut-front xs turned kept n len cut whole is around short =
@@ -21,7 +14,7 @@ cut-front xs turned kept n len cut whole is around short =
     short
     ∙ ap (λ (ys : List ℕ). take (len - cut) ys) around
     ∙ take-at (drop cut xs) (take cut xs) (len - cut) long
-    ∙ drop-min xs n cut (omega arith)
+    ∙ drop-capped xs n (length xs) cut (omega arith) (omega arith)
 
 pub returns : need.returns
 returns c =
