@@ -21,6 +21,7 @@ tree s = tree-of (s .words .now)
 -- words that are accepted spell a lawful sheet, and the sheet views these very words
 pub record Accepted (words : RefT (List ℕ)) (after : Sheet) : Type 0 where
   pub words-spell-a-lawful-sheet : Spells (words .now) (tree after)
+  pub words-spell-no-other-sheet : (t : Tree) → Spells (words .now) t → tree after ≡ t
   pub sheet-views-these-words : after .words ≡ words
 
 -- words that are refused spell none: the first fault is told, and the sheet is as it was

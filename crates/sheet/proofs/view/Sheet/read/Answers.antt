@@ -1,6 +1,6 @@
 use mathlib.Core.Path.{sym, refl}
 use Rattle.std.proofs.shelf.Results.{err-from-errBy}
-use Rattle.sheet.proofs.Acceptance.{sheet-spelled}
+use Rattle.sheet.proofs.Acceptance.{accepted-exactly, sheet-spelled}
 use Rattle.sheet.proofs.Readings.{refused-by, counted}
 use Rattle.sheet.proofs.view.Sheet.read.Needs as need
 
@@ -16,5 +16,6 @@ pub returns : need.returns
 returns c =
     record {
       words-spell-a-lawful-sheet = sheet-spelled (c .args .words .now) _ (sym (c .in-Continue-counts .ensures tt));
+      words-spell-no-other-sheet = accepted-exactly .spelled-once (c .args .words .now);
       sheet-views-these-words = refl;
     }
