@@ -2,7 +2,7 @@
 use mathlib.Core.Bool.{Bool, false, cond, not, _||_}
 use mathlib.Core.List.{List, [], _++_}
 use mathlib.Core.Path.{_≡_}
-use Prim.Native.Nat.{ℕ, _*_}
+use Prim.Native.Nat.{ℕ, _+_, _*_}
 use lib.Dec.{eqb}
 use lib.ListN.{length, drop}
 use Rattle.std.specs.Of.String.{string-bytes}
@@ -13,6 +13,7 @@ use Rattle.job.specs.declared.calls.Call.{Call}
 use Rattle.job.specs.Ledger.{Ledger}
 use Rattle.job.specs.Moments.{Moment}
 use Rattle.job.specs.Records.{ledger}
+use Rattle.sheet.specs.Encoding.{encode}
 use Rattle.sheet.specs.Trees.{Tree}
 use Rattle.day.specs.declared.sessions.Session.{Session}
 use Rattle.day.specs.declared.turns.Turn.{Turn}
@@ -20,6 +21,10 @@ use Rattle.day.specs.Bytes.{whole-words}
 use Rattle.day.specs.Calls.{Decoded}
 use Rattle.day.specs.Text.{lines-text, stop-text}
 use Rattle.day.specs.Turning.{Turned, place-after}
+
+-- the place of the first call's word: the number of sheet words and these come before it
+abbrev pub first-place : Tree → ℕ
+first-place t = length (encode t) + 1
 
 -- a turn with these bytes behind those of a cut word: what is not used stays, and the place moves on
 pub record Turned-session (t : Tree) (before : Session) (bytes : List ℕ) (turn : Turn) (after : Session) : Type 0 where

@@ -91,8 +91,7 @@ fn run_sheet<R: Read, W: Write>(
     if let Err(fault) = sheet.read(words) {
         return print(output, SheetRefusal(fault).to_string(heap)?.as_str());
     }
-    let start = (words.len() as u64).saturating_add(1);
-    let mut session = Session::open(heap, &sheet, start);
+    let mut session = Session::open(heap, &sheet);
     if answer(heap, &sheet, &mut session, calls, output)? {
         return Ok(());
     }

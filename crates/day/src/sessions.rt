@@ -12,7 +12,7 @@ ghost use Rattle.std.specs.Vec.{made};
 ghost use Rattle.job.specs.Records.{ledger};
 ghost use Rattle.sheet.specs.Reading.{tree};
 ghost use Rattle.sheet.specs.Trees.{Tree};
-ghost use Rattle.day.specs.Sessions.{Turned-session, Fed, Whole-day, Goes-on};
+ghost use Rattle.day.specs.Sessions.{Turned-session, first-place, Fed, Whole-day, Goes-on};
 ghost use Rattle.day.specs.Text.{stop-text};
 ghost use Rattle.day.specs.Turning.{Unfinished};
 use crate::text::add_stop;
@@ -40,14 +40,15 @@ fn drop_front(bytes: &mut Vec<u8>, count: usize)
 }
 
 impl Session {
-    // A session of a job newly opened, whose first call's word has this place.
-    pub fn open(heap: Global, sheet: &Sheet<'_>, place: u64) -> Session
-        ensures { λ r. ⌜ Fed (tree (now (sheet .entry))) place [] [] r ⌝ }
+    // A session of a job newly opened; the first call comes behind the number of sheet words and these.
+    pub fn open(heap: Global, sheet: &Sheet<'_>) -> Session
+        ensures { λ r. ⌜ Fed (tree (now (sheet .entry))) (first-place (tree (now (sheet .entry)))) [] [] r ⌝ }
     {
+        let words = sheet.words();
         Session {
             job: Job::open(sheet),
             pending: Vec::new(heap),
-            place,
+            place: words.len() as u64 + 1,
         }
     }
 
