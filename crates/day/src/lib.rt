@@ -1,7 +1,6 @@
 // A day at one stall: its input as calls, and the text of its answers.
 mod bytes;
 mod decoding;
-mod driver;
 mod opening;
 mod sessions;
 mod text;
@@ -10,9 +9,9 @@ mod turns;
 pub use bytes::words;
 pub use decoding::Batch;
 pub use decoding::decode;
-pub use driver::run_day;
 pub use opening::Opening;
 pub use opening::open;
+pub use opening::opening_size;
 pub use sessions::Session;
 pub use text::Line;
 pub use text::LineDisplay;

@@ -27,7 +27,7 @@ fn sheet_count(bytes: &[u8]) -> u32
 }
 
 // How many bytes open the day, as far as these tell.
-pub(crate) fn opening_size(bytes: &[u8]) -> usize
+pub fn opening_size(bytes: &[u8]) -> usize
     ensures { λ r. ⌜ r ≡ opening-size (now (bytes .entry)) ⌝ }
 {
     let count = sheet_count(bytes);

@@ -1,11 +1,9 @@
 // The text of each line that a day prints.
 ghost use mathlib.Core.Path.{_≡_};
-ghost use mathlib.Core.List.{[], _∷_, _++_};
-ghost use lib.Chars.{codes};
+ghost use mathlib.Core.List.{_++_};
 ghost use Rattle.std.specs.declared.option.Option.the-variants.{Some};
 ghost use Rattle.std.specs.Written.{decimal};
 ghost use Rattle.std.specs.Of.String.{string-bytes};
-ghost use Rattle.std.specs.Of.Vec.{vec-items};
 ghost use Rattle.std.specs.Vec.{made};
 ghost use Rattle.sheet.specs.Numbers.{number};
 ghost use Rattle.day.specs.Calls.{step};

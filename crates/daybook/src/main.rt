@@ -1,6 +1,6 @@
 // Runs the day on standard input, and prints its answers on standard output.
-use day::run_day;
 use std::io;
+use stream::run_day;
 
 fn main(rt: LibcRuntime) -> io::Result<()> {
     let mut input = rt.stdin();

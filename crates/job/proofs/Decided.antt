@@ -1,15 +1,13 @@
 -- One call has one answer, and one ledger after it.
 use mathlib.Core.Bool.{Bool, true, false}
-use mathlib.Core.List.{List}
 use mathlib.Core.Logic.{⊎-elim}
 use mathlib.Core.Path.{_≡_, refl, sym, ap, _∙_}
 use Prim.Native.Nat.{ℕ, zero, suc, _<_, _≤_}
 use native.Mathlib.Omega.{arith}
 use lib.ListN.{length}
 use Rattle.std.proofs.shelf.Tests.{both-ways, cases-order}
-use Rattle.bits.specs.Bits.{put}
 use Rattle.sheet.specs.Trees.{Tree, step-at}
-use Rattle.execution.specs.Execution.{Clash, successor}
+use Rattle.execution.specs.Execution.{Clash}
 use Rattle.execution.specs.Truth.{truth}
 use Rattle.job.specs.declared.calls.Answer.{Answer}
 use Rattle.job.specs.declared.calls.Answer.the-variants.{Done, Refused}

@@ -15,7 +15,7 @@ use Rattle.job.specs.declared.faults.StepFault.the-variants.{NoSuchStep}
 use Rattle.job.specs.Answers.{marking}
 use Rattle.job.specs.Ledger.{Ledger, Happens, Marks}
 use Rattle.job.proofs.Decided.{decided}
-use Rattle.job.specs.Moments.{Runs, Moment, opening, Promised}
+use Rattle.job.specs.Moments.{Runs, opening, Promised}
 
 module _ (t : Tree) where
   pub runs-append : (l k m : Ledger) (cs ds : List Call) (rs qs : List Answer) → Runs t l cs rs k → Runs t k ds qs m → Runs t l (cs ++ ds) (rs ++ qs) m

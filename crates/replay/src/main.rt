@@ -3,10 +3,10 @@ mod pipe;
 
 use crate::pipe::Pipe;
 use crate::pipe::PipeRead;
-use day::run_day;
 use std::alloc::Global;
 use std::fs;
 use std::io;
+use stream::run_day;
 
 // Whether the day prints what is expected when each read gives at most so many bytes.
 fn prints(heap: Global, day: &[u8], most: usize, expected: &[u8]) -> io::Result<bool> {

@@ -1,7 +1,7 @@
 -- What a reading promises, from what the survey tells.
 use mathlib.Core.Bool.{true}
 use mathlib.Core.List.{List}
-use mathlib.Core.Path.{_≡_, refl, sym, ap, _∙_}
+use mathlib.Core.Path.{_≡_, refl, sym, ap}
 use Prim.Native.Nat.{ℕ}
 use native.Mathlib.Omega.{arith}
 use lib.ListN.{length}
@@ -12,11 +12,10 @@ use Rattle.std.specs.declared.result.Result.the-variants.{Ok, Err}
 use Rattle.sheet.specs.declared.faults.SheetFault.{SheetFault}
 use Rattle.sheet.specs.declared.survey.Counts.{Counts}
 use Rattle.sheet.specs.declared.view.Sheet.{Sheet}
-use Rattle.sheet.specs.Acceptance.{Spells, counts}
+use Rattle.sheet.specs.Acceptance.{Spells}
 use Rattle.sheet.specs.Decoding.{tree-of}
 use Rattle.sheet.specs.Reading.{Refused, tree}
 use Rattle.sheet.specs.Survey.{survey}
-use Rattle.sheet.specs.Trees.{Tree}
 use Rattle.sheet.proofs.Acceptance.{accepted-exactly, sheet-counted, sheet-spelled}
 
 pub refused-by : (ws : List ℕ) (fault : SheetFault) (sheet : Sheet) → Err fault ≡ survey ws → Refused ws fault sheet sheet

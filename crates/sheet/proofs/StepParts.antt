@@ -1,6 +1,6 @@
 -- What the search for a step's STEP word finds on a sheet.
 use mathlib.Core.List.{List, [], _∷_, _++_}
-use mathlib.Core.Path.{_≡_, refl, sym, ap, _∙_, subst}
+use mathlib.Core.Path.{_≡_, sym, ap, _∙_}
 use mathlib.Core.Logic.{⊎-elim}
 use Prim.Native.Nat.{ℕ, zero, suc, _-_, _<_, _≤_}
 use native.Mathlib.Omega.{arith}
@@ -8,7 +8,7 @@ use lib.ListN.{length, drop, take, getD}
 use Rattle.std.proofs.shelf.Lists.{take-rest, length-drop}
 use Rattle.std.proofs.shelf.Tests.{cases-lt}
 use Rattle.sheet.specs.declared.view.Sheet.{Sheet}
-use Rattle.sheet.specs.Trees.{Tree, Step, idle, step-at}
+use Rattle.sheet.specs.Trees.{idle, step-at}
 use Rattle.sheet.specs.Encoding.{encode-step}
 use Rattle.sheet.specs.Lawful.{Each, Lawful-step}
 use Rattle.sheet.specs.Places.{from-step}

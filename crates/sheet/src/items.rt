@@ -1,7 +1,7 @@
 // Reading formulas and effects: the words behind them, or why and where they are none.
 ghost use mathlib.Core.Path.{_≡_};
 ghost use mathlib.Core.List.{[], _∷_};
-ghost use Prim.Native.Nat.{_+_, _<_, _≤_};
+ghost use Prim.Native.Nat.{_+_, _<_};
 ghost use lib.ListN.{length, replicate};
 ghost use Rattle.std.specs.Vec.{made};
 ghost use Rattle.sheet.specs.Reads.{Reads};

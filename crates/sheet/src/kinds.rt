@@ -1,6 +1,6 @@
 // The kinds of words: what each may argue, what follows it and where it may come.
 ghost use mathlib.Core.Path.{_≡_};
-ghost use Prim.Native.Nat.{_%_, _^_};
+ghost use Prim.Native.Nat.{_%_};
 ghost use Rattle.sheet.specs.Kinds.{row, argument, fits};
 
 #[derive(Clone, Copy)]

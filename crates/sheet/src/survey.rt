@@ -1,7 +1,7 @@
 // The whole run of words: the counts of the sheet that they are, or their first fault.
 ghost use mathlib.Core.List.{[]};
 ghost use mathlib.Core.Path.{_≡_};
-ghost use Prim.Native.Nat.{ℕ, _+_, _≤_};
+ghost use Prim.Native.Nat.{_≤_};
 ghost use lib.ListN.{length};
 ghost use Rattle.std.specs.declared.result.Result.the-variants.{Err};
 ghost use Rattle.sheet.specs.declared.sections.Section.the-variants.{Starts};

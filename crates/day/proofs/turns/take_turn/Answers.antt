@@ -1,4 +1,4 @@
-use mathlib.Core.Path.{_≡_, refl, _∙_, subst}
+use mathlib.Core.Path.{refl, _∙_, subst}
 use Rattle.std.proofs.shelf.Results.{err-from-errBy}
 use Rattle.day.proofs.Unfinished.{nothing-run}
 use mathlib.Core.List.{List}

@@ -2,7 +2,6 @@ use mathlib.Core.Path.{sym, ap, subst, _∙_}
 use Rattle.sheet.specs.Decoding.{tree-of}
 use Rattle.sheet.specs.Lawful.{Lawful}
 use Rattle.execution.specs.Execution.{start-of}
-use Rattle.execution.specs.State.{holds}
 use Rattle.execution.proofs.Starts.{started-none, started-more, started-other, started-all}
 use Rattle.execution.proofs.executing.start.Needs as need
 use Rattle.execution.proofs.executing.start.Needs.{in-Start, in-rest}

@@ -1,5 +1,4 @@
 use Prim.Native.Nat.{_/_, _^_, _<_}
-use native.Mathlib.Omega.{arith}
 use borrow.Author.Needs.{needs}
 use Rattle.std.proofs.shelf.Lists.{getD-default}
 use Rattle.sheet.specs.Kinds.{kinds}

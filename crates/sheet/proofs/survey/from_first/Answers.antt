@@ -3,8 +3,7 @@ use Prim.Native.Nat.{_<_}
 use borrow.Author.Needs.{needs}
 use lib.ListN.{length}
 use Rattle.std.proofs.shelf.Parts.{first-rest}
-use Rattle.sheet.specs.Survey.{scan, from-first}
-use Rattle.sheet.specs.declared.sections.Section.{Section}
+use Rattle.sheet.specs.Survey.{from-first}
 use Rattle.sheet.proofs.Scans.{from-first-fits}
 use Rattle.sheet.proofs.survey.from_first.Needs as need
 
