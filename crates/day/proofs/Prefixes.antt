@@ -8,15 +8,12 @@ use lib.ListN.{length, take, drop, getD}
 use Rattle.std.specs.Joined.{joined}
 use Rattle.std.proofs.shelf.Lists.{take-append-drop, drop-more, take-more, take-all, joined-more}
 use Rattle.job.specs.declared.calls.Call.{Call}
-use Rattle.day.specs.Calls.{Lawful, All-lawful, fits, encode-call, Unfit, Decoded}
+use Rattle.day.specs.Calls.{All-lawful, fits, encode-call, Unfit, Decoded}
+use Rattle.day.proofs.Rejoining.{lawful-append}
 
 -- the words before place i ask for these calls
 abbrev pub Before : List ℕ → ℕ → List Call → Type 0
 Before ws i cs = (take i ws ≡ joined encode-call cs) × All-lawful cs
-
-lawful-more : (cs : List Call) (c : Call) → All-lawful cs → Lawful c → All-lawful (cs ++ c ∷ [])
-lawful-more [] c all h = (h, tt)
-lawful-more (d ∷ cs) c all h = (all .0, lawful-more cs c (all .1) h)
 
 unfit-first : (w : ℕ) (ws : List ℕ) → ((c : Call) → fits w c → ⊥) → Unfit (w ∷ ws)
 unfit-first w ws none = record {
@@ -28,7 +25,7 @@ pub before-more : (ws : List ℕ) (i : ℕ) (cs : List Call) (c : Call) → Befo
 before-more ws i cs c h within f =
     let e = take-more ws i 0 within in
     let j = joined-more encode-call [] cs c in
-    (cc, lawful-more cs c (h .1) (f .1))
+    (cc, lawful-append cs (c ∷ []) (h .1) (f .1, tt))
 
 pub stops : (ws : List ℕ) (i : ℕ) (cs : List Call) → Before ws i cs → i < length ws → ((c : Call) → fits (getD ws i 0) c → ⊥) → Decoded ws cs true
 stops ws i cs h within none =

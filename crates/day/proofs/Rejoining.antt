@@ -27,7 +27,7 @@ words-split (a ∷ b ∷ c ∷ d ∷ rest) more =
     ap (λ (ws : List ℕ). word a b c d ∷ ws) e
     ∙ ap (λ (bs : List ℕ). word a b c d ∷ (whole-words rest ++ whole-words (bs ++ more))) (sym f)
 
-lawful-append : (cs ds : List Call) → All-lawful cs → All-lawful ds → All-lawful (cs ++ ds)
+pub lawful-append : (cs ds : List Call) → All-lawful cs → All-lawful ds → All-lawful (cs ++ ds)
 lawful-append [] ds h k = k
 lawful-append (c ∷ cs) ds h k = (h .0, lawful-append cs ds (h .1) k)
 

@@ -14,11 +14,9 @@ use Rattle.job.specs.declared.calls.Answer.{Answer}
 use Rattle.job.specs.declared.calls.Answer.the-variants.{Done, Refused}
 use Rattle.job.specs.declared.calls.Call.{Call}
 use Rattle.job.specs.declared.calls.Call.the-variants.{Do, Strike, Allow}
-use Rattle.job.specs.declared.faults.DoFault.{DoFault}
-use Rattle.job.specs.declared.faults.DoFault.the-variants.{Step, TrailFull}
-use Rattle.job.specs.declared.faults.StepFault.the-variants.{NoSuchStep, Struck, ConditionFalse, SetAndCleared}
-use Rattle.job.specs.Ledger.{Ledger, Happens, Does, Unmarked, most-done}
+use Rattle.job.specs.Ledger.{Ledger, Happens, Does, most-done}
 use Rattle.job.specs.Moments.{Runs, Moment, Day-stands, Promised-list, opening, accepted, accepted-one, marked, marked-one}
+use Rattle.job.proofs.Decided.{unmarked-past}
 use Rattle.job.proofs.Runs.{runs-append, runs-decided}
 
 module _ (t : Tree) where
@@ -88,13 +86,6 @@ module _ (t : Tree) where
   answered-along l (c ∷ cs) [] m h = absurd h
   answered-along l (c ∷ cs) (a ∷ rs) m h = omega (arith, answered-along (h .0) cs rs m (h .2))
 
-  unmarked-past : (j : ℕ) (f : DoFault) → Unmarked t j f → length (t .steps) ≤ j
-  unmarked-past j (Step NoSuchStep) h = h
-  unmarked-past j (Step Struck) h = absurd h
-  unmarked-past j (Step ConditionFalse) h = absurd h
-  unmarked-past j (Step SetAndCleared) h = absurd h
-  unmarked-past j TrailFull h = absurd h
-
   module _ (k : ℕ) where
     marks-when : (j : ℕ) (mark b : Bool) → j < length (t .steps) → cond (eqb k j) mark b ≡ cond (ltb j (length (t .steps)) && eqb k j) mark b
     marks-when j mark b on = ap (λ (x : Bool). cond (x && eqb k j) mark b) (sym (lt-ltb j (length (t .steps)) on))
@@ -106,9 +97,9 @@ module _ (t : Tree) where
     struck-after l (Do j) Done m h = ap (λ (x : ℕ → Bool). x k) (h .strikes-stay)
     struck-after l (Do j) (Refused f) m h = ap (λ (x : Ledger). x .struck k) (h .1)
     struck-after l (Strike j) Done m h = ap (λ (x : ℕ → Bool). x k) (h .step-is-marked) ∙ marks-when j true (l .struck k) (h .on-the-sheet)
-    struck-after l (Strike j) (Refused f) m h = ap (λ (x : Ledger). x .struck k) (h .1) ∙ marks-not j true (l .struck k) (unmarked-past j f (h .0))
+    struck-after l (Strike j) (Refused f) m h = ap (λ (x : Ledger). x .struck k) (h .1) ∙ marks-not j true (l .struck k) (unmarked-past t j f (h .0))
     struck-after l (Allow j) Done m h = ap (λ (x : ℕ → Bool). x k) (h .step-is-marked) ∙ marks-when j false (l .struck k) (h .on-the-sheet)
-    struck-after l (Allow j) (Refused f) m h = ap (λ (x : Ledger). x .struck k) (h .1) ∙ marks-not j false (l .struck k) (unmarked-past j f (h .0))
+    struck-after l (Allow j) (Refused f) m h = ap (λ (x : Ledger). x .struck k) (h .1) ∙ marks-not j false (l .struck k) (unmarked-past t j f (h .0))
 
     struck-along : (l : Ledger) (cs : List Call) (rs : List Answer) (m : Ledger) → Runs t l cs rs m → m .struck k ≡ marked t k (l .struck k) cs
     struck-along l [] [] m h = ap (λ (x : Ledger). x .struck k) h

@@ -46,6 +46,14 @@ stage-back (Refused (Step SetAndCleared)) = refl
 stage-back (Refused TrailFull) = refl
 stage-back Done = refl
 
+-- a mark is refused for the one cause that the sheet has no such step
+pub unmarked-past : (t : Tree) (k : ℕ) (f : DoFault) → Unmarked t k f → length (t .steps) ≤ k
+unmarked-past t k (Step NoSuchStep) h = h
+unmarked-past t k (Step Struck) h = absurd h
+unmarked-past t k (Step ConditionFalse) h = absurd h
+unmarked-past t k (Step SetAndCleared) h = absurd h
+unmarked-past t k TrailFull h = absurd h
+
 module _ (t : Tree) (l : Ledger) (k : ℕ) where
   -- the tests of a call to do, in their order
   abbrev Passes : ℕ → Type 0
@@ -126,14 +134,6 @@ module _ (t : Tree) (l : Ledger) (k : ℕ) where
   same-mark mark m n x y =
       same-ledger n m (y .state-stays ∙ sym (x .state-stays)) (y .step-is-marked ∙ sym (x .step-is-marked)) (y .done-stay ∙ sym (x .done-stay))
 
-  -- a mark is made or refused, by whether the sheet has the step
-  marked-unmarked : (f : DoFault) → k < length (t .steps) → Unmarked t k f → ⊥
-  marked-unmarked (Step NoSuchStep) on past = omega arith
-  marked-unmarked (Step Struck) on past = past
-  marked-unmarked (Step ConditionFalse) on past = past
-  marked-unmarked (Step SetAndCleared) on past = past
-  marked-unmarked TrailFull on past = past
-
   no-such-step : (f : DoFault) → Unmarked t k f → f ≡ Step NoSuchStep
   no-such-step (Step NoSuchStep) h = refl
   no-such-step (Step Struck) h = absurd h
@@ -149,10 +149,10 @@ decided t l (Do k) a b m n x y =
     let same = same-answer t l k a b m n x y in
     (same, same-after-do t l k a m n x (rw same at y))
 decided t l (Strike k) Done Done m n x y = (refl, same-mark t l k true m n x y)
-decided t l (Strike k) Done (Refused g) m n x y = absurd (marked-unmarked t l k g (x .on-the-sheet) (y .0))
-decided t l (Strike k) (Refused f) Done m n x y = absurd (marked-unmarked t l k f (y .on-the-sheet) (x .0))
+decided t l (Strike k) Done (Refused g) m n x y = absurd (omega (arith, x .on-the-sheet, unmarked-past t k g (y .0)))
+decided t l (Strike k) (Refused f) Done m n x y = absurd (omega (arith, y .on-the-sheet, unmarked-past t k f (x .0)))
 decided t l (Strike k) (Refused f) (Refused g) m n x y = (same-unmarked t l k f g (x .0) (y .0), y .1 ∙ sym (x .1))
 decided t l (Allow k) Done Done m n x y = (refl, same-mark t l k false m n x y)
-decided t l (Allow k) Done (Refused g) m n x y = absurd (marked-unmarked t l k g (x .on-the-sheet) (y .0))
-decided t l (Allow k) (Refused f) Done m n x y = absurd (marked-unmarked t l k f (y .on-the-sheet) (x .0))
+decided t l (Allow k) Done (Refused g) m n x y = absurd (omega (arith, x .on-the-sheet, unmarked-past t k g (y .0)))
+decided t l (Allow k) (Refused f) Done m n x y = absurd (omega (arith, y .on-the-sheet, unmarked-past t k f (x .0)))
 decided t l (Allow k) (Refused f) (Refused g) m n x y = (same-unmarked t l k f g (x .0) (y .0), y .1 ∙ sym (x .1))
