@@ -1,4 +1,6 @@
 // Sets of numbers below 64, as the bits of one number.
+#![tactic(auto)]
+
 ghost use Rattle.std.specs.Prelude.{◌≡◌, ℕ, ◌<◌, ◌≤◌, true, false, not, ◌&&◌, ◌||◌, Decides};
 ghost use Rattle.bits.specs.Bits.{bit, put};
 

@@ -1,4 +1,6 @@
 // A day at one stall: its input as calls, and the text of its answers.
+#![tactic(auto)]
+
 mod bytes;
 mod decoding;
 mod opening;

@@ -1,4 +1,6 @@
 // Runs the day on standard input, and prints its answers on standard output.
+#![tactic(auto)]
+
 use std::io;
 use stream::run_day;
 

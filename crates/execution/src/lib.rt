@@ -1,4 +1,6 @@
 // Truth of formulas, active effects and execution of steps.
+#![tactic(auto)]
+
 mod active;
 mod executing;
 mod states;

@@ -1,4 +1,6 @@
 // A repair job at one stall: the calls that change it, their refusals and the ledger that they keep.
+#![tactic(auto)]
+
 mod calls;
 mod doing;
 mod faults;

@@ -1,4 +1,6 @@
 // Replays the days that the file `days` names, and names those that do not print what is expected.
+#![tactic(auto)]
+
 mod pipe;
 
 use crate::pipe::Pipe;

@@ -1,4 +1,6 @@
 // Sheets: runs of words that describe the facts, steps and goals of one model of terminal.
+#![tactic(auto)]
+
 mod faults;
 mod items;
 mod kinds;

@@ -1,4 +1,6 @@
 // A whole day: reads what the input has, answers it, and reads on.
+#![tactic(auto)]
+
 ghost use Rattle.std.specs.Prelude.{◌≡◌, ℕ, ◌<◌, true, false, List, [], ◌++◌, IfOk, vec_len};
 
 use day::{Opening, Session, SheetRefusal, Stop, open, opening_size};
