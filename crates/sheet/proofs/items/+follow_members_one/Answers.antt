@@ -13,7 +13,7 @@ members-returns-in-err-rest t c =
 
 pub members-loop-done-preserved : goal.members-loop-done-preserved
 members-loop-done-preserved t c =
-    let p = c.in-ok-rest.ensures.reads in
+    let p = c.in_ok-rest.ensures.reads in
     (omega (arith, p.shorter, c.loop-done.invariant.0), member_paid _ _ _ _ _ _ c.loop-done.invariant.1 c.loop-done-test.true _ p)
 
 pub one-returns-in-default : goal.one-returns-in-default
@@ -30,5 +30,5 @@ pub one-returns-in-None : goal.one-returns-in-None
 one-returns-in-None t c =
     let some : 0 < length c.args.words.now = search rules in
     let split = first_rest c.args.words.now 0 some in
-    let p = rw (c.row-of.ensures, c.argument-of.ensures) at c.follow.ensures.reads in
+    let p = rw (c.row_of.ensures, c.argument_of.ensures) at c.follow.ensures.reads in
     record { reads = reads_word _ _ _ _ _ split c.in-None.ensures _ p; shorter = shorter_word _ (item c.args.sort c.args.depth) _ _ _ split _ _ p }

@@ -17,4 +17,4 @@ invariant-members-loop-done l =
     (length l.rest ≤ length l.initial.words)
     × ((total : ℕ) (s : Section) (is : List Item) →
     scan total l.facts s (replicate l.count (item l.sort l.depth) ++ is) l.initial.words
-    ≡ scan total l.facts s (replicate (l.count - l.-done) (item l.sort l.depth) ++ is) l.rest)
+    ≡ scan total l.facts s (replicate (l.count - l._done) (item l.sort l.depth) ++ is) l.rest)

@@ -26,7 +26,7 @@ loop-rest-preserved c =
     let split = first_rest c.loop-rest.rest.now 0 some in
     let opens : Ok (Entry.Opens c.in-Ok-Opens.next) ≡ enter c.args.facts c.loop-rest.section (get_or c.loop-rest.rest.now 0 0) = search rules in
     let few : Few c.in-Ok-Opens.next = search rules in
-    let p = rw (c.row-of.ensures, c.argument-of.ensures) at c.in-Ok.ensures.reads in
+    let p = rw (c.row_of.ensures, c.argument_of.ensures) at c.in-Ok.ensures.reads in
     (few, omega (arith, p.shorter, ap length split, c.loop-rest.invariant.1), c.loop-rest.invariant.2 ∙ part_paid _ _ _ _ _ _ split _ opens _ p)
 
 pub returns-in-Err-follow : goal.returns-in-Err-follow
@@ -34,7 +34,7 @@ returns-in-Err-follow c =
     let some : 0 < length c.loop-rest.rest.now = search rules in
     let split = first_rest c.loop-rest.rest.now 0 some in
     let opens : Ok (Entry.Opens c.in-Ok-Opens.next) ≡ enter c.args.facts c.loop-rest.section (get_or c.loop-rest.rest.now 0 0) = search rules in
-    let p = rw (c.row-of.ensures, c.argument-of.ensures) at c.in-Err-follow.ensures.reads in
+    let p = rw (c.row_of.ensures, c.argument_of.ensures) at c.in-Err-follow.ensures.reads in
     rw c.part.ensures (sym (c.loop-rest.invariant.2 ∙ part_unpaid _ _ _ _ _ _ split _ opens _ p))
 
 pub returns : goal.returns

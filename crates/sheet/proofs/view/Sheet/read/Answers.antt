@@ -15,7 +15,7 @@ invariant-of-self c = counted c.args.words.now _ c.in-ok-counts.ensures
 pub returns : goal.returns
 returns c =
     record {
-      words_spell_a_lawful_sheet = sheet_spelled c.args.words.now _ (sym c.in-ok-counts.ensures);
+      words_spell_a_lawful_sheet = sheet_spelled c.args.words.now _ (sym c.in_ok-counts.ensures);
       words_spell_no_other_sheet = accepted_exactly.spelled_once c.args.words.now;
       sheet_views_these_words = refl;
     }

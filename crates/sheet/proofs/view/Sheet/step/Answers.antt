@@ -4,7 +4,7 @@ use Rattle.sheet.specs.Places.{is_step, from_step}
 use Rattle.sheet.proofs.StepParts.{found_part, found_nothing}
 use Rattle.sheet.proofs.StepSearch.{from_other, from_sought, from_earlier, from_none, no_step}
 use Rattle.sheet.proofs.view.Sheet.step.Goals as goal
-use Rattle.sheet.proofs.view.Sheet.step.Goals.{in-Step+else-left-eq0, in-default}
+use Rattle.sheet.proofs.view.Sheet.step.Goals.{in-Step+else-left-eq0, in_default}
 
 pub returns-then-left-eq0 : goal.returns-then-left-eq0
 returns-then-left-eq0 c =
@@ -14,13 +14,13 @@ returns-then-left-eq0 c =
 
 pub loop-place-preserved : goal.loop-place-preserved
 loop-place-preserved c =
-    elim c.match-kind-of.branch [
+    elim c.match-kind_of.branch [
       | in-Step+else-left-eq0 w ↦
           let some : 0 < c.loop-place.left = omega (arith, w.if-left-eq0.false) in
           let on = from_earlier _ _ c.loop-place-test.true _ (ap is_step (sym w.in-Step.ensures)) some in
           simp w.left-is (c.loop-place.invariant ∙ on)
-      | in-default w ↦
-          let other = no_step _ w.in-default.not-Step in
+      | in_default w ↦
+          let other = no_step _ w.in_default.not-Step in
           let on = from_other _ _ c.loop-place-test.true _ (rw c.kind-of.ensures at other) in
           simp w.left-is (c.loop-place.invariant ∙ on)
     ]
