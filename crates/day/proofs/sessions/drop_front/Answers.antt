@@ -15,4 +15,4 @@ pub returns : goal.returns
 returns c =
     let whole = c.len.ensures ∙ c.args.bytes.now.ok.0 in
     let whole-2 = c.len-2.ensures ∙ c.args.bytes.now.ok.0 in
-    cut_front (vec_items c.args.bytes.now) (vec_items c.rotate-left.new.self) (vec_items c.truncate.new.self) c.args.count c.len-2.result c.min-cut.result whole-2 (omega (arith, whole, whole-2, c.min-cut.ensures)) c.rotate-left.ensures.items c.truncate.ensures.items
+    cut_front (vec_items c.args.bytes.now) (vec_items c.rotate_left.new.self) (vec_items c.truncate.new.self) c.args.count c.len-2.result c.min-cut.result whole-2 (omega (arith, whole, whole-2, c.min-cut.ensures)) c.rotate_left.ensures.items c.truncate.ensures.items

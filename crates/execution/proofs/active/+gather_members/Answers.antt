@@ -19,17 +19,17 @@ begun ws b = effect_begun ws b.1 b.0 b.2
 pub gather-bounds-words-0 : goal.gather-bounds-words-0
 gather-bounds-words-0 t c = begun c.args.words.now c.requires
 
-pub gather-slice-bounds-rest-count : goal.gather-slice-bounds-rest-count
-gather-slice-bounds-rest-count t c = begun c.args.words.now c.requires
+pub gather-slice_bounds-rest-count : goal.gather-slice_bounds-rest-count
+gather-slice_bounds-rest-count t c = begun c.args.words.now c.requires
 
-pub gather-slice-bounds-rest-start : goal.gather-slice-bounds-rest-start
-gather-slice-bounds-rest-start t c = begun c.args.words.now c.requires
+pub gather-slice_bounds-rest-start : goal.gather-slice_bounds-rest-start
+gather-slice_bounds-rest-start t c = begun c.args.words.now c.requires
 
 pub gather-members-requires : goal.gather-members-requires
 gather-members-requires t c =
     let ws = c.args.words.now in
     let o = opened_effect ws c.requires.1 Kind.Group c.in-Group.ensures c.requires.0 c.requires.2 in
-    (omega (arith, c.decreases, behind_shorter ws (begun ws c.requires)), (o.0, c.requires.1, rw c.argument-of-in-Group.ensures o.2))
+    (omega (arith, c.decreases, behind_shorter ws (begun ws c.requires)), (o.0, c.requires.1, rw c.argument_of-in-Group.ensures o.2))
 
 pub gather-truth-condition-requires : goal.gather-truth-condition-requires
 gather-truth-condition-requires t c =
@@ -49,8 +49,8 @@ gather-gather-requires t c =
 pub gather-unreachable-requires : goal.gather-unreachable-requires
 gather-unreachable-requires t c =
     let ws = c.args.words.now in
-    let o = opened_effect ws c.requires.1 c.kind-of.result c.kind-of.ensures c.requires.0 c.requires.2 in
-    let r = c.in-default in
+    let o = opened_effect ws c.requires.1 c.kind_of.result c.kind_of.ensures c.requires.0 c.requires.2 in
+    let r = c.in_default in
     no_effect _ r.not-Set r.not-Clear r.not-Group r.not-When _ _ _ _ o
 
 pub gather-returns-in-Set : goal.gather-returns-in-Set
@@ -59,8 +59,8 @@ gather-returns-in-Set t c =
     record {
       read = λ e tail p.
           let o = opened_effect ws tail Kind.Set c.in-Set.ensures e p in
-          let is = ap set c.argument-of.ensures ∙ sym o.0 in
-          (subst (λ (d : Effect). Added c.args.so-far c.args.on (active (holds c.args.before) d) c.with-set.result) is (c.with-set.ensures (omega (arith, o.1, c.argument-of.ensures))), o.2);
+          let is = ap set c.argument_of.ensures ∙ sym o.0 in
+          (subst (λ (d : Effect). Added c.args.so_far c.args.on (active (holds c.args.before) d) c.with_set.result) is (c.with_set.ensures (omega (arith, o.1, c.argument_of.ensures))), o.2);
       shorter = behind_shorter ws (begun ws c.requires);
     }
 
@@ -70,8 +70,8 @@ gather-returns-in-Clear t c =
     record {
       read = λ e tail p.
           let o = opened_effect ws tail Kind.Clear c.in-Clear.ensures e p in
-          let is = ap clear c.argument-of-in-Clear.ensures ∙ sym o.0 in
-          (subst (λ (d : Effect). Added c.args.so-far c.args.on (active (holds c.args.before) d) c.with-cleared.result) is (c.with-cleared.ensures (omega (arith, o.1, c.argument-of-in-Clear.ensures))), o.2);
+          let is = ap clear c.argument_of-in-Clear.ensures ∙ sym o.0 in
+          (subst (λ (d : Effect). Added c.args.so_far c.args.on (active (holds c.args.before) d) c.with_cleared.result) is (c.with_cleared.ensures (omega (arith, o.1, c.argument_of-in-Clear.ensures))), o.2);
       shorter = behind_shorter ws (begun ws c.requires);
     }
 
@@ -81,8 +81,8 @@ gather-returns-in-Group t c =
     record {
       read = λ e tail p.
           let o = opened_effect ws tail Kind.Group c.in-Group.ensures e p in
-          let inner = c.members.ensures.read o.0 tail (rw c.argument-of-in-Group.ensures o.2) in
-          (subst (λ (d : Effect). Added c.args.so-far c.args.on (active (holds c.args.before) d) c.members.result.active) (sym o.1) inner.0, inner.1);
+          let inner = c.members.ensures.read o.0 tail (rw c.argument_of-in-Group.ensures o.2) in
+          (subst (λ (d : Effect). Added c.args.so_far c.args.on (active (holds c.args.before) d) c.members.result.active) (sym o.1) inner.0, inner.1);
       shorter = omega (arith, c.members.ensures.shorter, behind_shorter ws (begun ws c.requires));
     }
 
@@ -101,8 +101,8 @@ gather-returns-after-on t c =
           let condition = c.truth-condition.ensures.read o.condition _ o.condition_first in
           let inner = c.gather.ensures.read o.effect tail (o.effect_next _ condition.1) in
           let on_both = on-is ∙ ap (λ (b : Bool). c.args.on && b) condition.0 in
-          let added = subst (λ (b : Bool). Added c.args.so-far b (active s o.effect) c.gather.result.active) on_both inner.0 in
-          (subst (λ (d : Effect). Added c.args.so-far c.args.on (active s d) c.gather.result.active) (sym o.is) (guarded_added c.args.on (truth s o.condition) added), inner.1);
+          let added = subst (λ (b : Bool). Added c.args.so_far b (active s o.effect) c.gather.result.active) on_both inner.0 in
+          (subst (λ (d : Effect). Added c.args.so_far c.args.on (active s d) c.gather.result.active) (sym o.is) (guarded_added c.args.on (truth s o.condition) added), inner.1);
       shorter = omega (arith, c.gather.ensures.shorter, c.truth-condition.ensures.shorter, behind_shorter ws (begun ws c.requires));
     }
 
@@ -112,7 +112,7 @@ members-returns-then-count-eq0 t c =
     record {
       read = λ es tail p.
           let o = no_members c.args.words.now c.args.count tail c.if-count-eq0.true es p in
-          (subst (λ (ds : Effects). Added c.args.so-far c.args.on (active_any s ds) c.args.so-far) (sym o.0) (none_added c.args.so-far c.args.on), o.1);
+          (subst (λ (ds : Effects). Added c.args.so_far c.args.on (active_any s ds) c.args.so_far) (sym o.0) (none_added c.args.so_far c.args.on), o.1);
       shorter = omega arith;
     }
 
@@ -135,6 +135,6 @@ members-returns t c =
           let m = members c.args.words.now c.args.count tail c.if-count-eq0.false es p in
           let head = c.gather-first.ensures.read m.head _ m.head_first in
           let others = c.members.ensures.read m.others tail (m.others_next _ head.1) in
-          (subst (λ (ds : Effects). Added c.args.so-far c.args.on (active_any s ds) c.members.result.active) (sym m.are) (then_added head.0 others.0), others.1);
+          (subst (λ (ds : Effects). Added c.args.so_far c.args.on (active_any s ds) c.members.result.active) (sym m.are) (then_added head.0 others.0), others.1);
       shorter = omega (arith, c.gather-first.ensures.shorter, c.members.ensures.shorter);
     }

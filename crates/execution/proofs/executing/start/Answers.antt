@@ -4,7 +4,7 @@ use Rattle.sheet.specs.Lawful.{Lawful}
 use Rattle.execution.specs.Execution.{start_of}
 use Rattle.execution.proofs.Starts.{started_none, started_more, started_other, started_all}
 use Rattle.execution.proofs.executing.start.Goals as goal
-use Rattle.execution.proofs.executing.start.Goals.{in-Start, in-default}
+use Rattle.execution.proofs.executing.start.Goals.{in-Start, in_default}
 
 pub loop-word-init : goal.loop-word-init
 loop-word-init c =
@@ -14,13 +14,13 @@ loop-word-init c =
 
 pub loop-word-preserved : goal.loop-word-preserved
 loop-word-preserved c =
-    elim c.match-kind-of.branch [
+    elim c.match-kind_of.branch [
       | in-Start w ↦
-          let made = rw w.argument-of.ensures at w.with-state.ensures.within in
+          let made = rw w.argument_of.ensures at w.with-state.ensures.within in
           let next = started_more _ _ c.loop-word-test.true _ c.loop-word.invariant (sym w.in-Start.ensures) _ made in
           simp w.state-is next
-      | in-default w ↦
-          let other = rw c.kind-of.ensures at w.in-default.not-Start in
+      | in_default w ↦
+          let other = rw c.kind_of.ensures at w.in_default.not-Start in
           simp w.state-is (started_other _ _ c.loop-word-test.true _ c.loop-word.invariant other)
     ]
 

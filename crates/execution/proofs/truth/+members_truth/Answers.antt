@@ -61,11 +61,11 @@ begun ws b = formula_begun ws b.1 b.0 b.2
 pub truth-bounds-words-0 : goal.truth-bounds-words-0
 truth-bounds-words-0 t c = begun c.args.words.now c.requires
 
-pub truth-slice-bounds-rest-count : goal.truth-slice-bounds-rest-count
-truth-slice-bounds-rest-count t c = begun c.args.words.now c.requires
+pub truth-slice_bounds-rest-count : goal.truth-slice_bounds-rest-count
+truth-slice_bounds-rest-count t c = begun c.args.words.now c.requires
 
-pub truth-slice-bounds-rest-start : goal.truth-slice-bounds-rest-start
-truth-slice-bounds-rest-start t c = begun c.args.words.now c.requires
+pub truth-slice_bounds-rest-start : goal.truth-slice_bounds-rest-start
+truth-slice_bounds-rest-start t c = begun c.args.words.now c.requires
 
 pub truth-truth-inner-requires : goal.truth-truth-inner-requires
 truth-truth-inner-requires t c =
@@ -77,19 +77,19 @@ pub truth-members-inner-requires : goal.truth-members-inner-requires
 truth-members-inner-requires t c =
     let ws = c.args.words.now in
     let o = opened_formula ws c.requires.1 Kind.All c.in-All.ensures c.requires.0 c.requires.2 in
-    (omega (arith, c.decreases, behind_shorter ws (begun ws c.requires)), (o.0, c.requires.1, rw c.argument-of-in-All.ensures o.2))
+    (omega (arith, c.decreases, behind_shorter ws (begun ws c.requires)), (o.0, c.requires.1, rw c.argument_of-in-All.ensures o.2))
 
 pub truth-members-inner-requires-in-Any : goal.truth-members-inner-requires-in-Any
 truth-members-inner-requires-in-Any t c =
     let ws = c.args.words.now in
     let o = opened_formula ws c.requires.1 Kind.Any c.in-Any.ensures c.requires.0 c.requires.2 in
-    (omega (arith, c.decreases, behind_shorter ws (begun ws c.requires)), (o.0, c.requires.1, rw c.argument-of-in-Any.ensures o.2))
+    (omega (arith, c.decreases, behind_shorter ws (begun ws c.requires)), (o.0, c.requires.1, rw c.argument_of-in-Any.ensures o.2))
 
 pub truth-unreachable-requires : goal.truth-unreachable-requires
 truth-unreachable-requires t c =
     let ws = c.args.words.now in
-    let o = opened_formula ws c.requires.1 c.kind-of.result c.kind-of.ensures c.requires.0 c.requires.2 in
-    let r = c.in-default in
+    let o = opened_formula ws c.requires.1 c.kind_of.result c.kind_of.ensures c.requires.0 c.requires.2 in
+    let r = c.in_default in
     no_formula _ r.not-Never r.not-Always r.not-Fact r.not-Not r.not-All r.not-Any _ _ _ _ o
 
 pub truth-returns-in-Never : goal.truth-returns-in-Never
@@ -119,7 +119,7 @@ truth-returns-in-Fact t c =
     record {
       read = λ f tail p.
           let o = opened_formula ws tail Kind.Fact c.in-Fact.ensures f p in
-          (c.holds.ensures ∙ ap s c.argument-of.ensures ∙ sym (ap (truth s) o.0), o.1);
+          (c.holds.ensures ∙ ap s c.argument_of.ensures ∙ sym (ap (truth s) o.0), o.1);
       shorter = behind_shorter ws (begun ws c.requires);
     }
 
@@ -142,7 +142,7 @@ truth-returns-in-All t c =
     record {
       read = λ f tail p.
           let o = opened_formula ws tail Kind.All c.in-All.ensures f p in
-          let inner = c.members-inner.ensures.read o.0 tail (rw c.argument-of-in-All.ensures o.2) in
+          let inner = c.members-inner.ensures.read o.0 tail (rw c.argument_of-in-All.ensures o.2) in
           (inner.0 ∙ sym (ap (truth s) o.1), inner.2);
       shorter = omega (arith, c.members-inner.ensures.shorter, behind_shorter ws (begun ws c.requires));
     }
@@ -154,7 +154,7 @@ truth-returns-in-Any t c =
     record {
       read = λ f tail p.
           let o = opened_formula ws tail Kind.Any c.in-Any.ensures f p in
-          let inner = c.members-inner-in-Any.ensures.read o.0 tail (rw c.argument-of-in-Any.ensures o.2) in
+          let inner = c.members-inner-in-Any.ensures.read o.0 tail (rw c.argument_of-in-Any.ensures o.2) in
           (inner.1 ∙ sym (ap (truth s) o.1), inner.2);
       shorter = omega (arith, c.members-inner-in-Any.ensures.shorter, behind_shorter ws (begun ws c.requires));
     }

@@ -6,14 +6,14 @@ use Rattle.day.proofs.sessions.Session.end.Goals as goal
 told_by : (b : Bool) (empty : ℕ → Bool) (n m place : ℕ) → b ≡ empty n → n ≡ m → (text : List ℕ) → text ≡ cond b [] (stop_text place) → text ≡ cond (empty m) [] (stop_text place)
 told_by b empty n m place test same text h = h ∙ ap (λ (x : Bool). cond x [] (stop_text place)) (test ∙ ap empty same)
 
-pub returns-then-is-empty : goal.returns-then-is-empty
-returns-then-is-empty c =
+pub returns-then-is_empty : goal.returns-then-is_empty
+returns-then-is_empty c =
     let held = c.args.self.now.pending in
-    let told = told_by true (λ n. eqb n 0) _ _ c.args.self.now.place c.if-is-empty.ensures held.ok.0 _ c.new-text.ensures.bytes in
+    let told = told_by true (λ n. eqb n 0) _ _ c.args.self.now.place c.if-is_empty.ensures held.ok.0 _ c.new-text.ensures.bytes in
     record { told = told; ended = λ t start given said fed. ends t start given said c.args.self.now fed _ told }
 
 pub returns : goal.returns
 returns c =
     let held = c.args.self.now.pending in
-    let told = told_by false (λ n. eqb n 0) _ _ c.args.self.now.place c.if-is-empty.ensures held.ok.0 _ (c.in-ok-add-stop.ensures ∙ ap (λ (xs : List ℕ). xs ++ stop_text c.args.self.now.place) c.new-text.ensures.bytes) in
+    let told = told_by false (λ n. eqb n 0) _ _ c.args.self.now.place c.if-is_empty.ensures held.ok.0 _ (c.in_ok-add_stop.ensures ∙ ap (λ (xs : List ℕ). xs ++ stop_text c.args.self.now.place) c.new-text.ensures.bytes) in
     record { told = told; ended = λ t start given said fed. ends t start given said c.args.self.now fed _ told }

@@ -8,28 +8,28 @@ use Rattle.day.proofs.Feeding.{goes_on}
 use Rattle.day.proofs.Unfinished.{nothing_run}
 use Rattle.day.proofs.sessions.Session.feed.Goals as goal
 
-pub returns-in-err-extend-from-slice : goal.returns-in-err-extend-from-slice
-returns-in-err-extend-from-slice c =
-    let p = err_from_is_err_and c.from-residual.result c.from-residual.ensures.1 in
+pub returns-in_err-extend_from_slice : goal.returns-in_err-extend_from_slice
+returns-in_err-extend_from_slice c =
+    let p = err_from_is_err_and c.from_residual.result c.from_residual.ensures.1 in
     rw p.1 (record { turned = nothing_run _ c.args.self.now.job c.args.self.now.job _ refl; goes_on = λ start given told fed. tt })
 
 pub returns : goal.returns
 returns c =
-    let turn = c.in-ok-turn.turn in
-    let arrived = c.in-ok-extend-from-slice.ensures.items in
-    let held = c.extend-from-slice.new.self in
+    let turn = c.in_ok-turn.turn in
+    let arrived = c.in_ok-extend_from_slice.ensures.items in
+    let held = c.extend_from_slice.new.self in
     let answered =
     subst
-    (λ (bs : List ℕ). Turned (tree c.args.sheet.now) (ledger c.args.self.now.job) bs c.args.self.now.place (string_bytes turn.text) turn.used turn.stopped (ledger c.take-turn.new.job))
-    (c.as-slice-pending.ensures.value ∙ arrived) c.in-ok-turn.ensures in
+    (λ (bs : List ℕ). Turned (tree c.args.sheet.now) (ledger c.args.self.now.job) bs c.args.self.now.place (string_bytes turn.text) turn.used turn.stopped (ledger c.take_turn.new.job))
+    (c.as_slice-pending.ensures.value ∙ arrived) c.in_ok-turn.ensures in
     let left =
-    c.drop-front.ensures
-    ∙ drop_capped (vec_items held) (4 * turn.used) 18446744073709551615 c.saturating-mul.result (omega (arith, held.ok, held.small)) (omega (arith, c.saturating-mul.ensures))
+    c.drop_front.ensures
+    ∙ drop_capped (vec_items held) (4 * turn.used) 18446744073709551615 c.saturating_mul.result (omega (arith, held.ok, held.small)) (omega (arith, c.saturating_mul.ensures))
     ∙ ap (drop (4 * turn.used)) arrived in
     record {
-      turned = record { pending_is_answered = answered; unused_bytes_stay = left; place_moves_on = c.saturating-add-self.ensures };
+      turned = record { pending_is_answered = answered; unused_bytes_stay = left; place_moves_on = c.saturating_add-self.ensures };
       goes_on = λ start given told fed.
           goes_on (tree c.args.sheet.now) start given told c.args.self.now fed
-          (record { job = c.take-turn.new.job; pending = c.drop-front.new.bytes; place = c.saturating-add-self.result })
-          c.args.bytes.now (string_bytes turn.text) turn.used turn.stopped answered left c.saturating-add-self.ensures;
+          (record { job = c.take_turn.new.job; pending = c.drop_front.new.bytes; place = c.saturating_add-self.result })
+          c.args.bytes.now (string_bytes turn.text) turn.used turn.stopped answered left c.saturating_add-self.ensures;
     }

@@ -10,7 +10,7 @@ use Rattle.job.proofs.jobs.Job.run.Goals as goal
 
 pub loop-call-preserved : goal.loop-call-preserved
 loop-call-preserved c =
-    let pushed = c.push-reserved.ensures in (
+    let pushed = c.push_reserved.ensures in (
       omega (arith, pushed.capacity, c.loop-call.invariant.0),
       omega (arith, pushed.len, c.loop-call.invariant.1),
       runs_next _ _ _ _ _ _ _ _ _ _ c.loop-call-test.true c.loop-call.invariant.2 c.answer-answer.ensures.promised.answered_by_the_ledger pushed.items,

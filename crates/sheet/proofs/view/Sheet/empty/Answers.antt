@@ -3,9 +3,9 @@ use Rattle.sheet.specs.Decoding.{decode}
 use Rattle.sheet.specs.Survey.{scan}
 use Rattle.sheet.proofs.view.Sheet.empty.Goals as goal
 
-pub invariant-of-result : goal.invariant-of-result
+pub invariant_of-result : goal.invariant_of-result
 unfolding scan decode
-invariant-of-result c = (refl, (refl, (refl, (refl, tt))))
+invariant_of-result c = record { lawful = refl; facts_counted = refl; steps_counted = refl; goals_counted = refl }
 
 pub returns : goal.returns
 unfolding decode

@@ -4,13 +4,15 @@ use Rattle.sheet.proofs.Acceptance.{accepted_exactly, sheet_spelled}
 use Rattle.sheet.proofs.Readings.{refused_by, counted}
 use Rattle.sheet.proofs.view.Sheet.read.Goals as goal
 
-pub returns-in-err-counts : goal.returns-in-err-counts
-returns-in-err-counts c =
-    let p = err_from_is_err_and c.from-residual.result c.from-residual.ensures.1 in
-    rw (p.1, p.2) (refused_by c.args.words.now _ _ c.in-err-counts.ensures)
+pub returns-in_err-counts : goal.returns-in_err-counts
+returns-in_err-counts c =
+    let p = err_from_is_err_and c.from_residual.result c.from_residual.ensures.1 in
+    rw (p.1, p.2) (refused_by c.args.words.now _ _ c.in_err-counts.ensures)
 
-pub invariant-of-self : goal.invariant-of-self
-invariant-of-self c = counted c.args.words.now _ c.in-ok-counts.ensures
+pub invariant_of-self : goal.invariant_of-self
+invariant_of-self c =
+    let known = counted c.args.words.now _ c.in_ok-counts.ensures in
+    record { lawful = known.0; facts_counted = known.1.0; steps_counted = known.1.1.0; goals_counted = known.1.1.1.0 }
 
 pub returns : goal.returns
 returns c =

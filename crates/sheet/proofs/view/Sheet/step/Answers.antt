@@ -21,7 +21,7 @@ loop-place-preserved c =
           simp w.left-is (c.loop-place.invariant ∙ on)
       | in_default w ↦
           let other = no_step _ w.in_default.not-Step in
-          let on = from_other _ _ c.loop-place-test.true _ (rw c.kind-of.ensures at other) in
+          let on = from_other _ _ c.loop-place-test.true _ (rw c.kind_of.ensures at other) in
           simp w.left-is (c.loop-place.invariant ∙ on)
     ]
 
