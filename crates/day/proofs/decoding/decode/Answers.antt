@@ -10,7 +10,7 @@ returns-in-None c =
 
 pub loop-word-preserved : goal.loop-word-preserved
 loop-word-preserved c =
-    subst (Before c.args.words.now (c.loop-word.word-index + 1)) (sym c.in_ok-push.ensures.items)
+    subst (Before c.args.words.now (c.loop-word.word-index + 1)) (sym c.in_ok-push-in-Some.ensures.items)
     (before_more _ _ _ c.in-Some.call c.loop-word.invariant c.loop-word-test.true c.in-Some.ensures)
 
 pub returns : goal.returns
