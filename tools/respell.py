@@ -13,6 +13,10 @@ import sys
 
 NAME = r"[A-Za-z_][A-Za-z0-9_']*(?:-[A-Za-z0-9_']+)+"
 SIGNATURE = re.compile(rf"^\s*(?:(?:pub|abbrev|unfoldable|record|data|axiom)\s+)*({NAME})\s*(?::|\(|\{{)", re.M)
+# A name that one file alone gives: a let, or another name for what it imports.
+LOCAL = re.compile(rf"(?:\blet|\bas)\s+({NAME})(?=\s*[:=,}}])")
+# A type that the toolchain's script left with an underscore.
+TYPE = re.compile(r"\b(?:abbrev|record|data|unfoldable)\s+pub\s+([A-Z][a-z][A-Za-z]*(?:_[a-z]+)+)\s*(?::|\()")
 TOKEN = re.compile(r"[A-Za-z_0-9'ℕ][A-Za-z0-9_'ℕ-]*")
 ASKED = {"Answers.antt", "Invariants.antt", "Choices.antt", "Proof.antt"}
 GOAL = re.compile(r"^(?:abbrev\s+)?pub\s+\S+\s*:\s*(?:need|given|goal)\.", re.M)
@@ -43,6 +47,8 @@ def declared(root):
             if asked and re.search(rf":\s*(?:need|given|goal)\.{re.escape(m.group(1))}\s*$", line.strip()):
                 continue
             ours.add(m.group(1))
+        ours.update(LOCAL.findall(text))
+        ours.update(TYPE.findall(text))
     return ours
 
 
@@ -62,7 +68,7 @@ APART = {"bit-and": "bit_of_and", "bit-or": "bit_of_or", "bit-xor": "bit_of_xor"
 def respelled(name):
     if name in APART:
         return APART[name]
-    parts = name.split("-")
+    parts = re.split("[-_]", name) if name[0].isupper() else name.split("-")
     if name[0].isupper():
         return "".join(p[:1].upper() + p[1:] for p in parts)
     return "_".join(p[:1].lower() + p[1:] if p[:1].isupper() and p[1:2].islower() else p for p in parts)

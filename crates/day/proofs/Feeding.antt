@@ -10,7 +10,7 @@ use Rattle.sheet.specs.Trees.{Tree}
 use Rattle.day.specs.declared.sessions.Session.{Session}
 use Rattle.day.specs.Bytes.{whole_words}
 use Rattle.day.specs.Calls.{Decoded}
-use Rattle.day.specs.Sessions.{Fed, WholeDay, Goes_on}
+use Rattle.day.specs.Sessions.{Fed, WholeDay, GoesOn}
 use Rattle.day.specs.Text.{line_text, lines_text, stop_text}
 use Rattle.day.specs.Turning.{Turned, place_after}
 use Rattle.day.proofs.Rejoining.{decoded_on, whole_calls, length_encoded}
@@ -87,7 +87,7 @@ module _ (t : Tree) (start : ℕ) (given told : List ℕ) (before : Session) (fe
       → Turned t (ledger before.job) (vec_items before.pending ++ bytes) before.place text used stopped (ledger after.job)
       → vec_items after.pending ≡ drop (4 * used) (vec_items before.pending ++ bytes)
       → after.place ≡ place_after before.place used
-      → Goes_on t start (given ++ bytes) (told ++ text) stopped after
+      → GoesOn t start (given ++ bytes) (told ++ text) stopped after
   unfolding calls answers
   goes_on after bytes text used true turned left moves =
       record {

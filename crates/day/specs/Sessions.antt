@@ -48,5 +48,5 @@ pub record WholeDay (t : Tree) (start : ℕ) (bytes text : List ℕ) : Type 0 wh
       text ≡ lines_text calls answers ++ cond (unfit || not (length bytes == 4 * length calls)) (stop_text (place_after start (length calls))) []
 
 -- a turn either ends the day or leaves the session as if all bytes so far had come at once
-abbrev pub Goes_on : Tree → ℕ → List ℕ → List ℕ → Bool → Session → Type 0
-Goes_on t start bytes text stopped after = MatchBool stopped (WholeDay t start bytes text) (Fed t start bytes text after)
+abbrev pub GoesOn : Tree → ℕ → List ℕ → List ℕ → Bool → Session → Type 0
+GoesOn t start bytes text stopped after = MatchBool stopped (WholeDay t start bytes text) (Fed t start bytes text after)

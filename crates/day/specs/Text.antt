@@ -1,6 +1,6 @@
 -- The lines that a day prints, as bytes.
 use Rattle.std.specs.Prelude.{ℕ, List, [], ◌∷◌, ◌++◌, codes, decimal}
-use Rattle.sheet.specs.Numbers.{number as cause-number}
+use Rattle.sheet.specs.Numbers.{number as cause_number}
 use Rattle.sheet.specs.declared.faults.Part.{Part}
 use Rattle.sheet.specs.declared.faults.Part.TheVariants.{Head, Step, Goal}
 use Rattle.sheet.specs.declared.faults.SheetFault.{SheetFault}
@@ -33,7 +33,7 @@ part_text (Goal k) = codes "goal " ++ decimal k
 
 abbrev pub refusal_text : SheetFault → List ℕ
 refusal_text f =
-    codes "sheet: refused " ++ (decimal (cause-number f.cause) ++ (codes " at " ++ (decimal f.place ++ (codes " in " ++ (part_text f.part ++ newline)))))
+    codes "sheet: refused " ++ (decimal (cause_number f.cause) ++ (codes " at " ++ (decimal f.place ++ (codes " in " ++ (part_text f.part ++ newline)))))
 
 abbrev pub stop_text : ℕ → List ℕ
 stop_text n = codes "stopped at word " ++ (decimal n ++ newline)

@@ -3,7 +3,7 @@ ghost use Rattle.std.specs.Prelude.{◌≡◌, ℕ, List, [], ◌++◌, length, 
 ghost use Rattle.job.specs.Records.{ledger};
 ghost use Rattle.sheet.specs.Reading.{tree};
 ghost use Rattle.sheet.specs.Trees.{Tree};
-ghost use Rattle.day.specs.Sessions.{TurnedSession, first_place, Fed, WholeDay, Goes_on};
+ghost use Rattle.day.specs.Sessions.{TurnedSession, first_place, Fed, WholeDay, GoesOn};
 ghost use Rattle.day.specs.Text.{stop_text};
 ghost use Rattle.day.specs.Turning.{Unfinished};
 
@@ -50,7 +50,7 @@ impl Session {
         bytes: &[u8],
     ) -> Result<Turn, AllocError>
         ensures turned { MatchResult result (λ turn. TurnedSession (tree sheet.now) self.old bytes.now turn self.new) (λ _. Unfinished (tree sheet.now) (ledger self.old.job) (self.old.pending.items ++ bytes.now) (ledger self.new.job)) }
-        ensures goes_on { (start : ℕ) (given told : List ℕ) → Fed (tree sheet.now) start given told self.old → IfOk result (λ turn. Goes_on (tree sheet.now) start (given ++ bytes.now) (told ++ string_bytes turn.text) turn.stopped self.new) }
+        ensures goes_on { (start : ℕ) (given told : List ℕ) → Fed (tree sheet.now) start given told self.old → IfOk result (λ turn. GoesOn (tree sheet.now) start (given ++ bytes.now) (told ++ string_bytes turn.text) turn.stopped self.new) }
     {
         self.pending.extend_from_slice(bytes)?;
         let pending = self.pending.as_slice();

@@ -4,7 +4,7 @@ use mathlib.Core.Path.{fun_ext}
 use Rattle.std.proofs.lemmas.List.{drop_more, drop_all}
 use Rattle.bits.specs.Bits.{put}
 use Rattle.sheet.specs.declared.kinds.Kind.{Kind}
-use Rattle.sheet.specs.Decoding.{decode, tree_of, Read, put as take-up}
+use Rattle.sheet.specs.Decoding.{decode, tree_of, Read, put as take_up}
 use Rattle.sheet.specs.Kinds.{row, argument}
 use Rattle.sheet.specs.Lawful.{Each, Ascending}
 use Rattle.execution.specs.Execution.{member, start_of}
@@ -12,10 +12,10 @@ use Rattle.execution.specs.Execution.{member, start_of}
 abbrev pub starts : List ℕ → List ℕ
 starts ws = (tree_of ws).starts
 
-taken : (w : ℕ) (r : Read) (k : Kind) → k ≡ Kind.Start → (take-up k w r).tree.starts ≡ argument w ∷ r.tree.starts
-taken w r k h = ap (λ (j : Kind). (take-up j w r).tree.starts) h
+taken : (w : ℕ) (r : Read) (k : Kind) → k ≡ Kind.Start → (take_up k w r).tree.starts ≡ argument w ∷ r.tree.starts
+taken w r k h = ap (λ (j : Kind). (take_up j w r).tree.starts) h
 
-passed : (w : ℕ) (r : Read) (k : Kind) → (k ≡ Kind.Start → ⊥) → (take-up k w r).tree.starts ≡ r.tree.starts
+passed : (w : ℕ) (r : Read) (k : Kind) → (k ≡ Kind.Start → ⊥) → (take_up k w r).tree.starts ≡ r.tree.starts
 passed w r Kind.Never h = refl
 passed w r Kind.Always h = refl
 passed w r Kind.Fact h = refl

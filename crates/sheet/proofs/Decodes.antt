@@ -133,14 +133,14 @@ module _ (n : ℕ) (few : n ≤ 64) where
       let a : ℕ = g * 2 ^ 16 + m in
       let small : a < 2 ^ 28 = work_small m g h.minutes_within h.grade_within in
       let same : argument (word 10 a) ≡ a = argument_word 10 a small in
-      let same-minutes : minutes (word 10 a) ≡ m = ap (λ y. y % 2 ^ 16) same ∙ work_minutes m g h.minutes_within h.grade_within in
-      let same-grade : grade (word 10 a) ≡ g = ap (λ y. y / 2 ^ 16) same ∙ work_grade m g h.minutes_within h.grade_within in
+      let same_minutes : minutes (word 10 a) ≡ m = ap (λ y. y % 2 ^ 16) same ∙ work_minutes m g h.minutes_within h.grade_within in
+      let same_grade : grade (word 10 a) ≡ g = ap (λ y. y / 2 ^ 16) same ∙ work_grade m g h.minutes_within h.grade_within in
       decode_word 10 a ((encode_formula x.condition ++ encode_effect x.effect) ++ ws) small
       ∙ ap (λ r. with_work (minutes (word 10 a)) (grade (word 10 a)) r)
       (ap (λ y. decode y) (append_assoc (encode_formula x.condition) (encode_effect x.effect) ws)
       ∙ decode_formula x.condition 1 (encode_effect x.effect ++ ws) h.condition_lawful
       ∙ ap (λ r. put_formula x.condition 0 r) (decode_effect x.effect 1 ws h.effect_lawful))
-      ∙ ap₂ (λ y z. with_work y z (put_formula x.condition 0 (put_effect x.effect 0 0 (decode ws)))) same-minutes same-grade
+      ∙ ap₂ (λ y z. with_work y z (put_formula x.condition 0 (put_effect x.effect 0 0 (decode ws)))) same_minutes same_grade
 
   decode_steps : (xs : List Step) (ws : List ℕ) → Each (LawfulStep n) xs → decode (encode_steps xs ++ ws) ≡ put_steps xs (decode ws)
   decode_steps [] ws h = refl
@@ -186,11 +186,11 @@ decode_tree t h =
     let end : List ℕ = word 14 0 ∷ [] in
     let goals : List ℕ = encode_goals t.goals ++ end in
     let steps : List ℕ = encode_steps t.steps ++ goals in
-    let goals-read = decode_goals n few t.goals end h.goals_lawful in
-    let steps-read = decode_steps n few t.steps goals h.steps_lawful in
-    let starts-read = decode_starts n few t.starts 0 steps h.starts_ascending in
-    let goals-tree = ap (λ r. r.tree) goals-read ∙ goals_put t.goals (decode end) end_tree in
-    let steps-tree = ap (λ r. r.tree) steps-read ∙ steps_put t.steps t.goals (decode goals) goals-tree in
-    let starts-tree = ap (λ r. r.tree) starts-read ∙ starts_put t.starts t.steps t.goals (decode steps) steps-tree in
+    let goals_read = decode_goals n few t.goals end h.goals_lawful in
+    let steps_read = decode_steps n few t.steps goals h.steps_lawful in
+    let starts_read = decode_starts n few t.starts 0 steps h.starts_ascending in
+    let goals_tree = ap (λ r. r.tree) goals_read ∙ goals_put t.goals (decode end) end_tree in
+    let steps_tree = ap (λ r. r.tree) steps_read ∙ steps_put t.steps t.goals (decode goals) goals_tree in
+    let starts_tree = ap (λ r. r.tree) starts_read ∙ starts_put t.starts t.steps t.goals (decode steps) steps_tree in
     ap (λ r. r.tree) (decode_word 12 n (encode_starts t.starts ++ steps) small)
-    ∙ ap₂ (λ a x. with_facts a x) (argument_word 12 n small) starts-tree
+    ∙ ap₂ (λ a x. with_facts a x) (argument_word 12 n small) starts_tree

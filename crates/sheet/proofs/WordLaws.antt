@@ -32,8 +32,8 @@ code Kind.Unused = 15
 
 pub row_word : (k a : ℕ) → a < 2 ^ 28 → row (word k a) ≡ row (word k 0)
 row_word k a h =
-    let zero-fits : 0 < 2 ^ 28 = omega arith in
-    rw (div-mul-add k (2 ^ 28) a h, div-mul-add k (2 ^ 28) 0 zero-fits)
+    let zero_fits : 0 < 2 ^ 28 = omega arith in
+    rw (div-mul-add k (2 ^ 28) a h, div-mul-add k (2 ^ 28) 0 zero_fits)
 
 pub argument_word : (k a : ℕ) → a < 2 ^ 28 → argument (word k a) ≡ a
 argument_word k a h = mod-mul-add k (2 ^ 28) a h
@@ -84,9 +84,9 @@ at_code w = elim (in_order kinds 0 (w / 2 ^ 28) refl) [ inl e ↦ inl (omega ari
 
 pub row_known : (w : ℕ) (k : Kind) → (row w).kind ≡ k → row w ≡ row (word (code k) 0)
 row_known w k e =
-    let zero-fits : 0 < 2 ^ 28 = omega arith in
+    let zero_fits : 0 < 2 ^ 28 = omega arith in
     elim (at_code w) [
-      | inl q ↦ ap (λ x. get_or kinds x unused) (sym q ∙ ap code e ∙ sym (div-mul-add (code k) (2 ^ 28) 0 zero-fits))
+      | inl q ↦ ap (λ x. get_or kinds x unused) (sym q ∙ ap code e ∙ sym (div-mul-add (code k) (2 ^ 28) 0 zero_fits))
       | inr b ↦ b ∙ ap (λ x. row (word (code x) 0)) (sym (ap (λ (r : Row). r.kind) b) ∙ e)
     ]
 

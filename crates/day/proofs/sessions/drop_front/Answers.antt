@@ -14,5 +14,5 @@ cut_front xs turned kept n len cut whole is around short =
 pub returns : goal.returns
 returns c =
     let whole = c.len.ensures ∙ c.args.bytes.now.ok.0 in
-    let whole-2 = c.len-2.ensures ∙ c.args.bytes.now.ok.0 in
-    cut_front (vec_items c.args.bytes.now) (vec_items c.rotate_left.new.self) (vec_items c.truncate.new.self) c.args.count c.len-2.result c.min-cut.result whole-2 (omega (arith, whole, whole-2, c.min-cut.ensures)) c.rotate_left.ensures.items c.truncate.ensures.items
+    let whole_2 = c.len-2.ensures ∙ c.args.bytes.now.ok.0 in
+    cut_front (vec_items c.args.bytes.now) (vec_items c.rotate_left.new.self) (vec_items c.truncate.new.self) c.args.count c.len-2.result c.min-cut.result whole_2 (omega (arith, whole, whole_2, c.min-cut.ensures)) c.rotate_left.ensures.items c.truncate.ensures.items

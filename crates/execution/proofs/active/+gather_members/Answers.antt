@@ -41,9 +41,9 @@ pub gather-gather-requires : goal.gather-gather-requires
 gather-gather-requires t c =
     let ws = c.args.words.now in
     let o = opened_effect ws c.requires.1 Kind.When c.in-When.ensures c.requires.0 c.requires.2 in
-    let behind-condition = (c.truth-condition.ensures.read o.condition _ o.condition_first).1 in (
+    let behind_condition = (c.truth-condition.ensures.read o.condition _ o.condition_first).1 in (
       omega (arith, c.decreases, c.truth-condition.ensures.shorter, behind_shorter ws (begun ws c.requires)),
-      (o.effect, c.requires.1, o.effect_next _ behind-condition),
+      (o.effect, c.requires.1, o.effect_next _ behind_condition),
     )
 
 pub gather-unreachable-requires : goal.gather-unreachable-requires
@@ -90,7 +90,7 @@ pub gather-returns-after-on : goal.gather-returns-after-on
 gather-returns-after-on t c =
     let ws = c.args.words.now in
     let s = holds c.args.before in
-    let on-is : c.if-on.gather ≡ (c.args.on && c.truth-condition.result.value) =
+    let on_is : c.if-on.gather ≡ (c.args.on && c.truth-condition.result.value) =
     elim c.if-on.branch [
       | gather-then-on w ↦ and_then _ _ _ w.if-on.true w.gather-is
       | gather-else-on w ↦ and_else _ _ _ w.if-on.false w.gather-is
@@ -100,7 +100,7 @@ gather-returns-after-on t c =
           let o = opened_effect ws tail Kind.When c.in-When.ensures e p in
           let condition = c.truth-condition.ensures.read o.condition _ o.condition_first in
           let inner = c.gather.ensures.read o.effect tail (o.effect_next _ condition.1) in
-          let on_both = on-is ∙ ap (λ (b : Bool). c.args.on && b) condition.0 in
+          let on_both = on_is ∙ ap (λ (b : Bool). c.args.on && b) condition.0 in
           let added = subst (λ (b : Bool). Added c.args.so_far b (active s o.effect) c.gather.result.active) on_both inner.0 in
           (subst (λ (d : Effect). Added c.args.so_far c.args.on (active s d) c.gather.result.active) (sym o.is) (guarded_added c.args.on (truth s o.condition) added), inner.1);
       shorter = omega (arith, c.gather.ensures.shorter, c.truth-condition.ensures.shorter, behind_shorter ws (begun ws c.requires));
@@ -124,8 +124,8 @@ members-gather-first-requires t c =
 pub members-members-requires : goal.members-members-requires
 members-members-requires t c =
     let m = members c.args.words.now c.args.count c.requires.1 c.if-count-eq0.false c.requires.0 c.requires.2 in
-    let behind-head = (c.gather-first.ensures.read m.head _ m.head_first).1 in
-    (omega (arith, c.decreases, c.gather-first.ensures.shorter), (m.others, c.requires.1, m.others_next _ behind-head))
+    let behind_head = (c.gather-first.ensures.read m.head _ m.head_first).1 in
+    (omega (arith, c.decreases, c.gather-first.ensures.shorter), (m.others, c.requires.1, m.others_next _ behind_head))
 
 pub members-returns : goal.members-returns
 members-returns t c =

@@ -27,18 +27,18 @@ members-truth-first-requires t c =
 pub members-members-others-requires : goal.members-members-others-requires
 members-members-others-requires t c =
     let m = members c.args.words.now c.args.count c.requires.1 c.if-count-eq0.false c.requires.0 c.requires.2 in
-    let behind-head = (c.truth-first.ensures.read m.head _ m.head_first).1 in
-    (omega (arith, c.decreases, c.truth-first.ensures.shorter), (m.others, c.requires.1, m.others_next _ behind-head))
+    let behind_head = (c.truth-first.ensures.read m.head _ m.head_first).1 in
+    (omega (arith, c.decreases, c.truth-first.ensures.shorter), (m.others, c.requires.1, m.others_next _ behind_head))
 
 pub members-returns : goal.members-returns
 members-returns t c =
     let s = holds c.args.state in
-    let all-is : c.if-first.result ≡ (c.truth-first.result.value && c.members-others.result.all) =
+    let all_is : c.if-first.result ≡ (c.truth-first.result.value && c.members-others.result.all) =
     elim c.if-first.branch [
       | members-then-first w ↦ and_then _ _ _ w.if-first.true w.result-is
       | members-else-first w ↦ and_else _ _ _ w.if-first.false w.result-is
     ] in
-    let any-is : c.if-first-2.result ≡ (c.truth-first.result.value || c.members-others.result.any) =
+    let any_is : c.if-first-2.result ≡ (c.truth-first.result.value || c.members-others.result.any) =
     elim c.if-first-2.branch [
       | members-then-first-2 w ↦ or_then _ _ _ w.if-first-2.true w.result-is
       | members-else-first-2 w ↦ or_else _ _ _ w.if-first-2.false w.result-is
@@ -48,8 +48,8 @@ members-returns t c =
           let m = members c.args.words.now c.args.count tail c.if-count-eq0.false fs p in
           let head = c.truth-first.ensures.read m.head _ m.head_first in
           let others = c.members-others.ensures.read m.others tail (m.others_next _ head.1) in (
-            all-is ∙ ap₂ (λ (x y : Bool). x && y) head.0 others.0 ∙ sym (ap (all_true s) m.are),
-            any-is ∙ ap₂ (λ (x y : Bool). x || y) head.0 others.1 ∙ sym (ap (any_true s) m.are),
+            all_is ∙ ap₂ (λ (x y : Bool). x && y) head.0 others.0 ∙ sym (ap (all_true s) m.are),
+            any_is ∙ ap₂ (λ (x y : Bool). x || y) head.0 others.1 ∙ sym (ap (any_true s) m.are),
             others.2,
           );
       shorter = omega (arith, c.truth-first.ensures.shorter, c.members-others.ensures.shorter);
