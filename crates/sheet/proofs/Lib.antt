@@ -13,3 +13,6 @@ pub mod Readings
 pub mod StepSearch
 pub mod StepPlace
 pub mod StepParts
+pub mod PartSearch
+pub mod PartPlace
+pub mod PartParts

@@ -8,27 +8,8 @@ use Rattle.sheet.specs.declared.kinds.Argument.TheVariants.{Zero, Fact, Count, W
 use Rattle.sheet.specs.declared.kinds.Follows.{Follows}
 use Rattle.sheet.specs.declared.kinds.Place.{Place}
 use Rattle.sheet.specs.declared.kinds.Row.{Row}
-use Rattle.sheet.specs.Kinds.{kinds, row, argument, fits}
+use Rattle.sheet.specs.Kinds.{kinds, code, row, argument, fits}
 use Rattle.sheet.specs.Encoding.{word}
-
--- the number of a kind, in a word's top four bits
-abbrev pub code : Kind → ℕ
-code Kind.Never = 0
-code Kind.Always = 1
-code Kind.Fact = 2
-code Kind.Not = 3
-code Kind.All = 4
-code Kind.Any = 5
-code Kind.Set = 6
-code Kind.Clear = 7
-code Kind.Group = 8
-code Kind.When = 9
-code Kind.Step = 10
-code Kind.Goal = 11
-code Kind.Sheet = 12
-code Kind.Start = 13
-code Kind.End = 14
-code Kind.Unused = 15
 
 pub row_word : (k a : ℕ) → a < 2 ^ 28 → row (word k a) ≡ row (word k 0)
 row_word k a h =

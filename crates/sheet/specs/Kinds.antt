@@ -7,6 +7,25 @@ use Rattle.sheet.specs.declared.kinds.Place.{Place}
 use Rattle.sheet.specs.declared.kinds.Row.{Row}
 use Rattle.sheet.specs.declared.kinds.Argument.TheVariants.{Zero, Fact, Count, Work, Facts}
 
+-- the number of a kind, in a word's top four bits
+abbrev pub code : Kind → ℕ
+code Kind.Never = 0
+code Kind.Always = 1
+code Kind.Fact = 2
+code Kind.Not = 3
+code Kind.All = 4
+code Kind.Any = 5
+code Kind.Set = 6
+code Kind.Clear = 7
+code Kind.Group = 8
+code Kind.When = 9
+code Kind.Step = 10
+code Kind.Goal = 11
+code Kind.Sheet = 12
+code Kind.Start = 13
+code Kind.End = 14
+code Kind.Unused = 15
+
 abbrev line : Kind → Argument → Follows → Place → Row
 line k a f p = record { kind = k; argument = a; follows = f; place = p }
 

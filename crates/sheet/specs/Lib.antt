@@ -8,4 +8,5 @@ pub mod Reads
 pub mod Decoding
 pub mod Acceptance
 pub mod Places
+pub mod KindPlaces
 pub mod Reading

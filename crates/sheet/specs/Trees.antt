@@ -53,3 +53,7 @@ idle = record { minutes = 0; grade = 0; condition = never; effect = group Effect
 
 abbrev pub step_at : Tree → ℕ → Step
 step_at t k = slice_index_or t.steps k idle
+
+-- a goal that is never true, for numbers that no goal has
+abbrev pub goal_at : Tree → ℕ → Formula
+goal_at t k = slice_index_or t.goals k never

@@ -1,8 +1,9 @@
 // The kinds of words: what each may argue, what follows it and where it may come.
 ghost use Rattle.std.specs.Prelude.{◌≡◌, ◌%◌};
-ghost use Rattle.sheet.specs.Kinds.{row, argument, fits};
+ghost use Rattle.sheet.specs.Kinds.{row, argument, minutes, grade, fits};
+ghost use Rattle.sheet.specs.KindPlaces.{is_of};
 
-#[derive(Clone, Copy)]
+#[derive(Clone, Copy, PartialEq, Eq)]
 pub enum Kind {
     Never,
     Always,
@@ -178,6 +179,24 @@ pub fn argument_of(word: u32) -> u32
     ensures { result ≡ argument word }
 {
     word % 0x1000_0000
+}
+
+pub(crate) fn is_of(word: u32, kind: Kind) -> bool
+    ensures { result ≡ is_of kind word }
+{
+    kind_of(word) == kind
+}
+
+pub(crate) fn minutes_of(word: u32) -> u32
+    ensures { result ≡ minutes word }
+{
+    argument_of(word) % 0x1_0000
+}
+
+pub(crate) fn grade_of(word: u32) -> u32
+    ensures { result ≡ grade word }
+{
+    argument_of(word) / 0x1_0000
 }
 
 // Whether a word's argument is one that its kind may have, on a sheet of so many facts.

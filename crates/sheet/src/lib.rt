@@ -2,6 +2,7 @@
 #![tactic(auto)]
 
 mod faults;
+mod finding;
 mod items;
 mod kinds;
 mod reading;
@@ -10,5 +11,6 @@ mod survey;
 mod view;
 
 pub use faults::{Cause, Part, SheetFault};
+pub use finding::Work;
 pub use kinds::{Kind, argument_of, kind_of};
 pub use view::Sheet;
