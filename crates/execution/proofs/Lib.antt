@@ -4,5 +4,6 @@ pub mod EffectParts
 pub mod Additions
 pub mod Shortcuts
 pub mod StepWords
+pub mod GoalWords
 pub mod Outcomes
 pub mod Starts

@@ -1,5 +1,6 @@
 -- When a step is executable in a state, and the state that follows.
 use Rattle.std.specs.Prelude.{◌≡◌, ℕ, ◌<◌, Bool, true, false, cond, ◌||◌, List, [], ◌∷◌, length, ◌==◌}
+use Rattle.sheet.specs.Lawful.{Each}
 use Rattle.sheet.specs.Trees.{Effect, Step, Tree, step_at}
 use Rattle.execution.specs.Truth.{truth}
 use Rattle.execution.specs.Active.{sets, clears}
@@ -29,3 +30,8 @@ abbrev pub Executes : Tree → (ℕ → Bool) → List ℕ → (ℕ → Bool) �
 Executes t s [] last = last ≡ s
 Executes t s (k ∷ ks) last =
     (k < length t.steps) × Executable s (step_at t k) × Executes t (successor s (step_at t k).effect) ks last
+
+-- allowed steps, each executable in its turn, lead from one state to another; a step that is not struck is allowed
+pub record Leads (t : Tree) (struck s : ℕ → Bool) (ks : List ℕ) (last : ℕ → Bool) : Type 0 where
+  pub steps_are_allowed : Each (λ k. struck k ≡ false) ks
+  pub steps_execute : Executes t s ks last

@@ -1,8 +1,8 @@
-// The state at the start of a sheet, and the execution of its steps.
+// The state at the start of a sheet, the execution of its steps, and the truth of its goals.
 ghost use Rattle.std.specs.Prelude.{◌≡◌};
 ghost use Rattle.sheet.specs.Reading.{tree};
 ghost use Rattle.execution.specs.Execution.{start_of};
-ghost use Rattle.execution.specs.Executed.{Executed};
+ghost use Rattle.execution.specs.Executed.{Executed, Valued};
 ghost use Rattle.execution.specs.State.{holds};
 
 use crate::active::active_effects;
@@ -49,4 +49,12 @@ pub fn execute(sheet: &Sheet<'_>, step: u32, before: State) -> Result<State, Exe
         return Err(ExecutionFault::SetAndCleared);
     }
     Ok(successor(before, active))
+}
+
+// Whether a goal of the sheet is true in a state; None where the sheet has no such goal.
+pub fn satisfied(sheet: &Sheet<'_>, goal: u32, state: State) -> Option<bool>
+    ensures { Valued (tree sheet.now) (holds state) goal result }
+{
+    let part = sheet.goal(goal)?;
+    Some(truth(&part[1..], state).value)
 }

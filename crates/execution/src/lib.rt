@@ -7,5 +7,5 @@ mod states;
 mod successor;
 mod truth;
 
-pub use executing::{ExecutionFault, execute, start};
+pub use executing::{ExecutionFault, execute, satisfied, start};
 pub use states::State;

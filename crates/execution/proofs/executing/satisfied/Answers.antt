@@ -1,10 +1,10 @@
-use Rattle.execution.proofs.PartWords.{goal_first}
+use Rattle.execution.proofs.GoalWords.{goal_first}
 use Rattle.execution.proofs.executing.satisfied.Goals as goal
 
 pub truth-requires : goal.truth-requires
-truth-requires c = (_, _, goal_first _ _ _ c.in-ok-part.ensures)
+truth-requires c = (_, _, goal_first _ _ _ c.in_ok-part.ensures)
 
 pub returns : goal.returns
 returns c =
-    let found = c.in-ok-part.ensures in
+    let found = c.in_ok-part.ensures in
     (found.on_the_sheet, (c.truth.ensures.read _ _ (goal_first _ _ _ found)).0)
