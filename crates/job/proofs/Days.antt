@@ -15,7 +15,7 @@ use Rattle.job.proofs.Runs.{runs_append, runs_decided}
 
 module _ (t : Tree) where
   -- one more step at the end of a row of steps
-  executes_more : (s : ℕ → Bool) (ks : List ℕ) (mid : ℕ → Bool) (k : ℕ) (last : ℕ → Bool) → Executes t s ks mid →
+  pub executes_more : (s : ℕ → Bool) (ks : List ℕ) (mid : ℕ → Bool) (k : ℕ) (last : ℕ → Bool) → Executes t s ks mid →
       k < length t.steps → Executable mid (step_at t k) → last ≡ successor mid (step_at t k).effect → Executes t s (ks ++ k ∷ []) last
   executes_more s [] mid k last first on ready next =
       (on, subst (λ (x : ℕ → Bool). Executable x (step_at t k)) first ready, next ∙ ap (λ (x : ℕ → Bool). successor x (step_at t k).effect) first)

@@ -3,4 +3,7 @@ pub mod Answers
 pub mod Ledger
 pub mod Attempts
 pub mod Moments
+pub mod Tries
+pub mod Routes
+pub mod Checking
 pub mod Records

@@ -27,7 +27,7 @@ impl Job {
     }
 
     // The state after a step, if it may be done now; the trail is not asked.
-    fn attempt(&self, sheet: &Sheet<'_>, step: u32) -> Result<State, StepFault>
+    pub(crate) fn attempt(&self, sheet: &Sheet<'_>, step: u32) -> Result<State, StepFault>
         ensures attempted { Attempted (tree sheet.now) (ledger self.now) step result }
         ensures few { OnOk result (step < 64) }
     {

@@ -2,9 +2,11 @@
 #![tactic(auto)]
 
 mod calls;
+mod checking;
 mod doing;
 mod faults;
 mod jobs;
+mod routes;
 mod running;
 mod strikes;
 mod trail;
@@ -13,3 +15,4 @@ mod trails;
 pub use calls::{Answer, Call};
 pub use faults::{DoFault, StepFault};
 pub use jobs::Job;
+pub use routes::{CheckFault, RouteFault};

@@ -1,6 +1,6 @@
 // Why a route is refused.
 ghost use Rattle.std.specs.Prelude.{◌≡◌};
-ghost use Rattle.job.specs.Numbers.{route-number, check-number};
+ghost use Rattle.job.specs.Numbers.{route_number, check_number};
 ghost use Rattle.job.specs.declared.routes.RouteFault.TheVariants.{Step};
 
 use crate::faults::StepFault;
@@ -28,7 +28,7 @@ impl From<StepFault> for RouteFault {
 
 impl RouteFault {
     pub fn number(self) -> u8
-        ensures { result ≡ route-number self }
+        ensures { result ≡ route_number self }
     {
         match self {
             RouteFault::Step(fault) => fault.number(),
@@ -39,7 +39,7 @@ impl RouteFault {
 
 impl CheckFault {
     pub fn number(self) -> u8
-        ensures { result ≡ check-number self }
+        ensures { result ≡ check_number self }
     {
         match self {
             CheckFault::NoSuchGoal => 9,

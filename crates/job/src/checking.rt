@@ -2,19 +2,15 @@
 ghost use Rattle.std.specs.Prelude.{◌≡◌, ◌<◌, length, Some};
 ghost use Rattle.execution.specs.State.{holds};
 ghost use Rattle.sheet.specs.Reading.{tree};
-ghost use Rattle.job.specs.Answers.{answer-to-named-check};
-ghost use Rattle.job.specs.Asked.{check as check-asked};
 ghost use Rattle.job.specs.Checking.{PromisedCheck, TriedStep, Walked};
-ghost use Rattle.job.specs.Moments.{Promised};
-ghost use Rattle.job.specs.Records.{ledger, struck_in};
+ghost use Rattle.job.specs.Records.{ledger};
 
-use crate::attempts::attempt;
 use crate::faults::StepFault;
 use crate::jobs::Job;
-use crate::routes::{CheckFault, RouteFault, RouteFaultFromStep};
+use crate::routes::{CheckFault, RouteFault};
 use execution::State;
 use sheet::Sheet;
-use weights::{Figure, Grade, Longest, NamedKind, Reach, Sum, WeightKind};
+use weights::WeightKind;
 
 // The state that a step leads to, and what the step weighs.
 #[derive(Clone, Copy)]
@@ -31,12 +27,17 @@ impl Job {
         before: State,
         step: u32,
     ) -> Result<Tried<K::Weight>, StepFault>
-        ensures { TriedStep (algebra kind.now) (tree sheet.now) (struck_in self.now.strikes) (holds before) step result }
+        ensures { TriedStep (K.algebra kind.now) (tree sheet.now) (ledger self.now) (holds before) step result }
     {
         let Some(work) = sheet.work(step) else {
             return Err(StepFault::NoSuchStep);
         };
-        let state = attempt(sheet, self.strikes, before, step)?;
+        let there = Job {
+            state: before,
+            strikes: self.strikes,
+            trail: self.trail,
+        };
+        let state = there.attempt(sheet, step)?;
         let weight = kind.step(work.minutes, work.grade);
         Ok(Tried { state, weight })
     }
@@ -52,7 +53,7 @@ impl Job {
     ) -> Result<K::Weight, RouteFault>
         requires goal_there { goal < length (tree sheet.now).goals }
         requires at_the_start { position.old ≡ 0 }
-        ensures { Walked (algebra kind.now) (tree sheet.now) (ledger self.now) goal route.now position.new result }
+        ensures { Walked (K.algebra kind.now) (tree sheet.now) (ledger self.now) goal route.now position.new result }
     {
         let mut state = self.state;
         let mut weight = kind.zero();
@@ -77,8 +78,7 @@ impl Job {
         goal: u32,
         route: &[u8],
     ) -> Result<K::Weight, CheckFault>
-        ensures promised { PromisedCheck (algebra kind.now) (tree sheet.now) (ledger self.now) goal route.now result }
-        ensures untouched { (self.now ≡ self.now) × (sheet.now ≡ sheet.now) × (route.now ≡ route.now) }
+        ensures { PromisedCheck (K.algebra kind.now) (tree sheet.now) (ledger self.now) goal route.now result }
     {
         if goal >= sheet.goals() {
             return Err(CheckFault::NoSuchGoal);
@@ -88,24 +88,5 @@ impl Job {
             Ok(weight) => Ok(weight),
             Err(fault) => Err(CheckFault::Route { fault, position }),
         }
-    }
-
-    // The same for a kind by its name, the weight as it is told.
-    pub(crate) fn check_named(
-        &self,
-        sheet: &Sheet<'_>,
-        kind: NamedKind,
-        goal: u32,
-        route: &[u8],
-    ) -> Result<Figure, CheckFault>
-        ensures { Promised (tree sheet.now) (ledger self.now) (check-asked (Some kind) goal route.now) (answer-to-named-check result) (ledger self.now) }
-    {
-        let told = match kind {
-            NamedKind::Longest => self.check(sheet, &Longest, goal, route)?.figure(),
-            NamedKind::Sum => self.check(sheet, &Sum, goal, route)?.figure(),
-            NamedKind::Grade => self.check(sheet, &Grade, goal, route)?.figure(),
-            NamedKind::Reach => self.check(sheet, &Reach, goal, route)?.figure(),
-        };
-        Ok(told)
     }
 }

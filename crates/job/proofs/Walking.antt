@@ -3,8 +3,7 @@ use Rattle.std.proofs.Common.{◌≡◌, ℕ, ◌+◌, ◌<◌, ◌≤◌, Bool,
 use Rattle.std.proofs.lemmas.List.{take_more, take_all}
 use Rattle.std.proofs.lemmas.Bool.{both_ways}
 use Rattle.sheet.specs.Lawful.{Each}
-use Rattle.sheet.specs.Trees.{Tree, step_at, goal-at}
-use Rattle.sheet.proofs.Each.{each_append}
+use Rattle.sheet.specs.Trees.{Tree, step_at, goal_at}
 use Rattle.execution.specs.Executed.{Valued}
 use Rattle.execution.specs.Execution.{Executes, Leads, successor}
 use Rattle.execution.specs.Truth.{truth}
@@ -12,13 +11,18 @@ use Rattle.weights.specs.Algebra.{Algebra, SomeWeight}
 use Rattle.weights.specs.Laws.{Laws}
 use Rattle.weights.specs.Routes.{step_weight, route_weight}
 use Rattle.weights.proofs.Routes.{weight_after_append}
-use Rattle.job.specs.Attempts.{Ready}
+use Rattle.job.specs.Ledger.{Ledger, Ready}
+use Rattle.job.specs.Tries.{in_state}
 use Rattle.job.specs.Routes.{Arrives}
-use Rattle.job.proofs.Executing.{executes_more}
+use Rattle.job.proofs.Days.{executes_more}
+
+each_append : {X : Type 0} (P : X → Type 0) (xs ys : List X) → Each P xs → Each P ys → Each P (xs ++ ys)
+each_append P [] ys h k = k
+each_append P (x ∷ xs) ys h k = (h.0, each_append P xs ys h.1 k)
 
 -- the steps before place i lead to a state, and weigh so much
-pub record WalkedTo {W : Type 0} (a : Algebra W) (t : Tree) (struck s : ℕ → Bool) (ks : List ℕ) (i : ℕ) (here : ℕ → Bool) (w : W) : Type 0 where
-  pub leads_here : Leads t struck s (take i ks) here
+pub record WalkedTo {W : Type 0} (a : Algebra W) (t : Tree) (l : Ledger) (ks : List ℕ) (i : ℕ) (here : ℕ → Bool) (w : W) : Type 0 where
+  pub leads_here : Leads t l.struck l.state (take i ks) here
   pub weighs : w ≡ route_weight a t (take i ks)
   pub some : SomeWeight a w
 
@@ -33,13 +37,13 @@ module _ {W : Type 0} (a : Algebra W) (laws : Laws a) where
   then_is_some w v x y =
       (laws.then_is_a_weight w v x.0 y.0, λ same. ⊎_elim x.1 y.1 (laws.then_none_from_none w v x.0 y.0 same))
 
-  module _ (t : Tree) (struck s : ℕ → Bool) (ks : List ℕ) where
-    pub walked_none : WalkedTo a t struck s ks 0 s a.zero
-    walked_none = record { leads_here = record { steps-are-allowed = tt; steps-execute = refl }; weighs = refl; some = zero_is_some }
+  module _ (t : Tree) (l : Ledger) (ks : List ℕ) where
+    pub walked_none : WalkedTo a t l ks 0 l.state a.zero
+    walked_none = record { leads_here = record { steps_are_allowed = tt; steps_execute = refl }; weighs = refl; some = zero_is_some }
 
-    pub walked_more : (i : ℕ) (here next : ℕ → Bool) (w v : W) → i < length ks → WalkedTo a t struck s ks i here w →
-        Ready t struck here (get_or ks i 0) → next ≡ successor here (step_at t (get_or ks i 0)).effect →
-        v ≡ step_weight a (step_at t (get_or ks i 0)) → SomeWeight a v → WalkedTo a t struck s ks (i + 1) next (a.then w v)
+    pub walked_more : (i : ℕ) (here next : ℕ → Bool) (w v : W) → i < length ks → WalkedTo a t l ks i here w →
+        Ready t (in_state l here) (get_or ks i 0) → next ≡ successor here (step_at t (get_or ks i 0)).effect →
+        v ≡ step_weight a (step_at t (get_or ks i 0)) → SomeWeight a v → WalkedTo a t l ks (i + 1) next (a.then w v)
     walked_more i here next w v within so_far ready follows weighs some =
         let k = get_or ks i 0 in
         let more : take (i + 1) ks ≡ take i ks ++ k ∷ [] = take_more ks i 0 within in
@@ -47,12 +51,12 @@ module _ {W : Type 0} (a : Algebra W) (laws : Laws a) where
         record {
           leads_here =
               record {
-                steps-are-allowed =
-                    subst (Each (λ (j : ℕ). struck j ≡ false)) (sym more)
-                    (each_append (λ (j : ℕ). struck j ≡ false) (take i ks) (k ∷ []) led.steps-are-allowed (ready.allowed, tt));
-                steps-execute =
-                    subst (λ (js : List ℕ). Executes t s js next) (sym more)
-                    (executes_more t s (take i ks) here k next led.steps-execute ready.on_the_sheet ready.executable follows);
+                steps_are_allowed =
+                    subst (Each (λ (j : ℕ). l.struck j ≡ false)) (sym more)
+                    (each_append (λ (j : ℕ). l.struck j ≡ false) (take i ks) (k ∷ []) led.steps_are_allowed (ready.allowed, tt));
+                steps_execute =
+                    subst (λ (js : List ℕ). Executes t l.state js next) (sym more)
+                    (executes_more t l.state (take i ks) here k next led.steps_execute ready.on_the_sheet ready.executable follows);
               };
           weighs =
               ap₂ a.then so_far.weighs weighs
@@ -62,16 +66,16 @@ module _ {W : Type 0} (a : Algebra W) (laws : Laws a) where
         }
 
     -- at the end of the route, where the goal is told true or false
-    module _ (goal i : ℕ) (here : ℕ → Bool) (w : W) (past : length ks ≤ i) (so_far : WalkedTo a t struck s ks i here w) where
+    module _ (goal i : ℕ) (here : ℕ → Bool) (w : W) (past : length ks ≤ i) (so_far : WalkedTo a t l ks i here w) where
       all : take i ks ≡ ks
       all = take_all i ks past
 
-      pub arrives : (value : Bool) → goal < length t.goals → truth here (goal-at t goal) ≡ value → Arrives t struck s goal ks value
+      pub arrives : (value : Bool) → goal < length t.goals → truth here (goal_at t goal) ≡ value → Arrives t l goal ks value
       arrives value on is =
           record {
             goal_is_on_the_sheet = on;
             last = here;
-            route_leads_there = subst (λ (js : List ℕ). Leads t struck s js here) all so_far.leads_here;
+            route_leads_there = subst (λ (js : List ℕ). Leads t l.struck l.state js here) all so_far.leads_here;
             goal_value_there = is;
           }
 
@@ -79,6 +83,6 @@ module _ {W : Type 0} (a : Algebra W) (laws : Laws a) where
       weighs_all = so_far.weighs ∙ ap (route_weight a t) all
 
 -- a goal that is on the sheet is told
-pub told_of : (t : Tree) (s : ℕ → Bool) (goal : ℕ) (r : Option Bool) → Valued t s goal r → goal < length t.goals → unwrap_or r false ≡ truth s (goal-at t goal)
+pub told_of : (t : Tree) (s : ℕ → Bool) (goal : ℕ) (r : Option Bool) → Valued t s goal r → goal < length t.goals → unwrap_or r false ≡ truth s (goal_at t goal)
 told_of t s goal None h on = absurd (omega arith)
 told_of t s goal (Some b) h on = h.1

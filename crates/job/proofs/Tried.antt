@@ -1,19 +1,19 @@
 -- One try of a step has one outcome.
-use Rattle.std.proofs.Common.{◌≡◌, ℕ, Bool, refl, arith}
+use Rattle.std.proofs.Common.{◌≡◌, ℕ, refl, arith}
 use Rattle.std.proofs.lemmas.Bool.{both_ways}
 use Rattle.sheet.specs.Trees.{Tree}
 use Rattle.job.specs.declared.faults.StepFault.{StepFault}
 use Rattle.job.specs.declared.faults.StepFault.TheVariants.{NoSuchStep, Struck, ConditionFalse, SetAndCleared}
-use Rattle.job.specs.Attempts.{Hindered, Ready}
+use Rattle.job.specs.Ledger.{Ledger, Hindered, Ready}
 
-module _ (t : Tree) (struck s : ℕ → Bool) (k : ℕ) where
-  pub never_both : (f : StepFault) → Ready t struck s k → Hindered t struck s k f → ⊥
+module _ (t : Tree) (l : Ledger) (k : ℕ) where
+  pub never_both : (f : StepFault) → Ready t l k → Hindered t l k f → ⊥
   never_both NoSuchStep r h = omega (arith, r.on_the_sheet)
   never_both Struck r h = both_ways _ r.allowed h.1
   never_both ConditionFalse r h = both_ways _ h.2 r.executable.condition_true
   never_both SetAndCleared r h = r.executable.nothing_set_and_cleared h.3
 
-  pub hindered_once : (f g : StepFault) → Hindered t struck s k f → Hindered t struck s k g → g ≡ f
+  pub hindered_once : (f g : StepFault) → Hindered t l k f → Hindered t l k g → g ≡ f
   hindered_once NoSuchStep NoSuchStep x y = refl
   hindered_once NoSuchStep Struck x y = absurd (omega (arith, y.0))
   hindered_once NoSuchStep ConditionFalse x y = absurd (omega (arith, y.0))
