@@ -2,7 +2,7 @@
 ghost use Rattle.std.specs.Prelude.{◌≡◌, ℕ, ◌<◌, ◌≤◌, List, length};
 ghost use Rattle.sheet.specs.Trees.{Formula, Formulas};
 ghost use Rattle.execution.specs.State.{holds};
-ghost use Rattle.execution.specs.Truth.{truth as «true-in», all_true, any_true};
+ghost use Rattle.execution.specs.Truth.{truth as true_in, all_true, any_true};
 ghost use Rattle.execution.specs.Reading.{BeginsFormula, BeginsFormulas, FormulaFirst, FormulasFirst};
 
 use crate::states::State;
@@ -26,7 +26,7 @@ struct Tallied<'a> {
 #[cycle(members_truth)]
 pub(crate) fn truth<'a>(words: &'a [u32], state: State) -> Valued<'a>
     requires { BeginsFormula words.now }
-    ensures read { (f : Formula) (tail : List ℕ) → FormulaFirst words.now f tail → (result.value ≡ «true-in» (holds state) f) × (result.rest.now ≡ tail) }
+    ensures read { (f : Formula) (tail : List ℕ) → FormulaFirst words.now f tail → (result.value ≡ true_in (holds state) f) × (result.rest.now ≡ tail) }
     ensures shorter { length result.rest.now < length words.now }
 {
     let word = words[0];
