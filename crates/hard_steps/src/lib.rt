@@ -1,4 +1,6 @@
 // A kind of weight from outside: how many steps of grade five or more are needed.
+#![tactic(auto)]
+
 ghost use Rattle.hard_steps.specs.HardSteps.{hard_steps};
 ghost use Rattle.std.proofs.Common.{rules};
 
