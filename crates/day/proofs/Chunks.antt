@@ -13,8 +13,8 @@ word_first (a ∷ b ∷ c ∷ []) h = absurd (omega arith)
 word_first (a ∷ b ∷ c ∷ d ∷ rest) h = refl
 
 -- one more word taken from the front
-pub words_more : (done rest chunk more all now-done : List ℕ) (w : ℕ) → done ++ whole_words rest ≡ whole_words all → chunk ≡ take 4 rest → more ≡ drop 4 rest → 4 ≤ length rest → w ≡ first chunk → now-done ≡ done ++ w ∷ [] → now-done ++ whole_words more ≡ whole_words all
-words_more done rest chunk more all now-done w so_far front back long is pushed =
+pub words_more : (done rest chunk more all now_done : List ℕ) (w : ℕ) → done ++ whole_words rest ≡ whole_words all → chunk ≡ take 4 rest → more ≡ drop 4 rest → 4 ≤ length rest → w ≡ first chunk → now_done ≡ done ++ w ∷ [] → now_done ++ whole_words more ≡ whole_words all
+words_more done rest chunk more all now_done w so_far front back long is pushed =
     let e = word_first rest long in
     let s = append_assoc done (w ∷ []) (whole_words more) in
     cc

@@ -5,9 +5,9 @@ use Rattle.weights.specs.declared.minutes.Minutes.{Minutes}
 use Rattle.weights.specs.declared.reach.Reached.{Reached}
 use Rattle.weights.specs.Algebra.{Algebra}
 use Rattle.weights.specs.HighestGrade.{above_nine, higher}
-use Rattle.weights.specs.HighestGrade.{of as of-grade}
+use Rattle.weights.specs.HighestGrade.{of as of_grade}
 use Rattle.weights.specs.Minutes.{above_top, no_minutes, less_minutes, larger, capped_sum}
-use Rattle.weights.specs.Minutes.{of as of-minutes}
+use Rattle.weights.specs.Minutes.{of as of_minutes}
 use Rattle.weights.specs.Reached.{joined, less_reached}
 
 -- a kind that counts minutes, by how it joins things that are both wanted
@@ -15,12 +15,12 @@ abbrev counting : (Minutes → Minutes → Minutes) → Bool → Algebra Minutes
 counting both takes_larger =
     record {
       is_weight = λ x. nat_le x.number above_top;
-      zero = of-minutes 0;
+      zero = of_minutes 0;
       none = no_minutes;
       less = less_minutes;
       both = both;
       then = capped_sum;
-      step = λ m g. of-minutes m;
+      step = λ m g. of_minutes m;
       takes_larger = takes_larger;
     }
 
@@ -34,12 +34,12 @@ abbrev pub grade : Algebra HighestGrade
 grade =
     record {
       is_weight = λ x. nat_le x.number above_nine;
-      zero = of-grade 0;
-      none = of-grade above_nine;
+      zero = of_grade 0;
+      none = of_grade above_nine;
       less = λ x y. nat_lt x.number y.number;
       both = higher;
       then = higher;
-      step = λ m g. of-grade g;
+      step = λ m g. of_grade g;
       takes_larger = true;
     }
 
