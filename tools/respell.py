@@ -3,8 +3,9 @@
 
 usage: python3 tools/respell.py [--dry]     at the top of the repository, once, after the toolchain's own script
 
-A name is ours where a .antt file of specs/ or proofs/ declares it by a signature of its own, as a record, a data type or
-one of their fields and constructors. The answers and invariants that the checker asks for by name keep their names.
+A name is ours where a file of specs/ or proofs/ declares it by a signature, binds it, or imports something as it. What
+the checker asks for by name keeps its name, and so does what a file imports from the library. A line 'falls together'
+says that a new name stands somewhere already: mostly a function or a label in src/ beside the definition that it is of.
 """
 
 import os
@@ -12,14 +13,15 @@ import re
 import sys
 
 NAME = r"[A-Za-z_][A-Za-z0-9_']*(?:-[A-Za-z0-9_']+)+"
-SIGNATURE = re.compile(rf"^\s*(?:(?:pub|abbrev|unfoldable|record|data|axiom)\s+)*({NAME})\s*(?::|\(|\{{)", re.M)
-# A name that one file alone gives: a let, or another name for what it imports.
-LOCAL = re.compile(rf"(?:\blet|\bas)\s+({NAME})(?=\s*[:=,}}])")
+BINDERS = r"(?:\s+(?:\((?:[^()]|\([^()]*\))*\)|\{[^{}]*\}))*"
+SIGNATURE = re.compile(rf"^[ \t]*(?:(?:pub|abbrev|unfoldable|record|data)\s+)*({NAME}){BINDERS}\s*:(?!\s*(?:need|given|goal)\.)", re.M)
+LOCAL = re.compile(rf"(?:\blet|\bas)\s+«?({NAME})(?=»?\s*[:=,}}])")
+BINDER = re.compile(r"[({]([^(){}:]+) : ")
 # A type that the toolchain's script left with an underscore.
 TYPE = re.compile(r"\b(?:abbrev|record|data|unfoldable)\s+pub\s+([A-Z][a-z][A-Za-z]*(?:_[a-z]+)+)\s*(?::|\()")
 TOKEN = re.compile(r"[A-Za-z_0-9'ℕ][A-Za-z0-9_'ℕ-]*")
-ASKED = {"Answers.antt", "Invariants.antt", "Choices.antt", "Proof.antt"}
-GOAL = re.compile(r"^(?:abbrev\s+)?pub\s+\S+\s*:\s*(?:need|given|goal)\.", re.M)
+# Where the plain respelling would be a name of the library, ours says what it is a law of.
+APART = {"bit-and": "bit_of_and", "bit-or": "bit_of_or", "bit-xor": "bit_of_xor"}
 
 
 def files(root):
@@ -30,30 +32,25 @@ def files(root):
                 yield os.path.join(folder, name)
 
 
-def without_comments(text):
-    return re.sub(r"--.*", "", text)
+def read(path):
+    with open(path, encoding="utf-8") as f:
+        return f.read()
 
 
 def declared(root):
     ours = set()
     for path in files(root):
-        if not path.endswith(".antt"):
-            continue
-        with open(path, encoding="utf-8") as f:
-            text = without_comments(f.read())
-        asked = os.path.basename(path) in ASKED and ("/specs/" not in path)
-        for m in SIGNATURE.finditer(text):
-            line = text[text.rfind("\n", 0, m.end()) + 1 : text.find("\n", m.end()) if text.find("\n", m.end()) >= 0 else len(text)]
-            if asked and re.search(rf":\s*(?:need|given|goal)\.{re.escape(m.group(1))}\s*$", line.strip()):
-                continue
-            ours.add(m.group(1))
+        text = re.sub(r"(?:--|//).*", "", read(path))
         ours.update(LOCAL.findall(text))
-        ours.update(TYPE.findall(text))
+        if path.endswith(".antt"):
+            ours.update(SIGNATURE.findall(text))
+            ours.update(TYPE.findall(text))
+            for names in BINDER.findall(text):
+                ours.update(n for n in names.split() if re.fullmatch(NAME, n))
     return ours
 
 
 def imported(root, text):
-    """The names that a file has from the library, which keep their spelling there."""
     theirs = set()
     for m in re.finditer(r"use Rattle\.([A-Za-z_0-9]+)\.[^{\n]*\{([^}]*)\}", text):
         if not os.path.isdir(os.path.join(root, "crates", m.group(1))):
@@ -61,47 +58,39 @@ def imported(root, text):
     return theirs
 
 
-# Where the plain respelling would be another name's, ours says what it is a law of.
-APART = {"bit-and": "bit_of_and", "bit-or": "bit_of_or", "bit-xor": "bit_of_xor"}
-
-
 def respelled(name):
     if name in APART:
         return APART[name]
-    parts = re.split("[-_]", name) if name[0].isupper() else name.split("-")
     if name[0].isupper():
-        return "".join(p[:1].upper() + p[1:] for p in parts)
-    return "_".join(p[:1].lower() + p[1:] if p[:1].isupper() and p[1:2].islower() else p for p in parts)
+        return "".join(p[:1].upper() + p[1:] for p in re.split("[-_]", name))
+    return name.replace("-", "_")
+
+
+def told_apart(root, turn):
+    met = {}
+    for path in files(root):
+        for t in TOKEN.findall(read(path)):
+            met.setdefault(t, set()).add(os.path.relpath(path, root))
+    for old, new in turn.items():
+        others = [o for o, n in turn.items() if n == new and o != old]
+        if new in met or others:
+            print(f"falls together: {old} -> {new}, which stands in {', '.join(others + sorted(met.get(new, ()))[:6])}")
 
 
 def main():
     root = os.getcwd()
-    ours = declared(root)
-    turn = {n: respelled(n) for n in sorted(ours)}
-    met = {}
-    for path in files(root):
-        with open(path, encoding="utf-8") as f:
-            for t in TOKEN.findall(f.read()):
-                met.setdefault(t, set()).add(os.path.relpath(path, root))
-    for old, new in turn.items():
-        if new in met:
-            print(f"falls together: {old} -> {new}, which stands in {', '.join(sorted(met[new])[:6])}")
-    back = {}
-    for old, new in turn.items():
-        back.setdefault(new, []).append(old)
-    for new, olds in back.items():
-        if len(olds) > 1:
-            print(f"falls together: {' and '.join(olds)} -> {new}")
+    turn = {n: respelled(n) for n in sorted(declared(root))}
+    told_apart(root, turn)
     if "--dry" in sys.argv:
         for old, new in turn.items():
             print(f"{old} -> {new}")
         return
     changed = 0
     for path in files(root):
-        with open(path, encoding="utf-8") as f:
-            text = f.read()
+        text = read(path)
         theirs = imported(root, text)
-        new = TOKEN.sub(lambda m: m.group(0) if m.group(0) in theirs else turn.get(m.group(0), m.group(0)), text)
+        new = re.sub(rf"«({NAME})»", lambda m: turn.get(m.group(1), m.group(0)), text)
+        new = TOKEN.sub(lambda m: m.group(0) if m.group(0) in theirs else turn.get(m.group(0), m.group(0)), new)
         if new != text:
             with open(path, "w", encoding="utf-8") as f:
                 f.write(new)
