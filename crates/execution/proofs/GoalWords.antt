@@ -1,5 +1,5 @@
 -- Where a goal's formula stands in its part of the words.
-use Rattle.std.proofs.Common.{◌≡◌, ℕ, ◌<◌, List, length, sym, ap, ◌∙◌, arith}
+use Rattle.std.proofs.Common.{ℕ, ◌<◌, List, length, sym, ap, ◌∙◌, arith}
 use Rattle.std.proofs.lemmas.Slice.{first_rest}
 use Rattle.sheet.specs.Trees.{Tree, goal_at}
 use Rattle.sheet.specs.Reading.{GoalPart, behind_goal}
