@@ -1,5 +1,5 @@
 // What a route weighs: its steps are executed on a copy of the state.
-ghost use Rattle.std.specs.Prelude.{◌≡◌, ◌<◌, length, Some};
+ghost use Rattle.std.specs.Prelude.{◌≡◌, ◌<◌, length};
 ghost use Rattle.execution.specs.State.{holds};
 ghost use Rattle.sheet.specs.Reading.{tree};
 ghost use Rattle.job.specs.Checking.{PromisedCheck, TriedStep, Walked};
