@@ -1,8 +1,10 @@
 -- Active effects that are added one after the other, and under a condition.
-use Rattle.std.proofs.Common.{◌≡◌, ℕ, Bool, true, false, ◌&&◌, ◌||◌, refl, ap, ◌∙◌}
+use Rattle.std.proofs.Common.{◌≡◌, ℕ, Bool, true, false, ◌&&◌, ◌||◌, refl, List, ap, ◌∙◌}
 use Rattle.execution.specs.declared.active.Active.{Active}
-use Rattle.execution.specs.Active.{true_literal, false_literal}
+use Rattle.execution.specs.Active.{true_literal, false_literal, active_any}
 use Rattle.execution.specs.Gathered.{set_in, cleared_in, Added}
+use Rattle.execution.specs.Reading.{EffectsFirst}
+use Rattle.sheet.specs.Trees.{Effects}
 
 nothing : (x on : Bool) → x ≡ (x || (on && false))
 nothing true on = refl
@@ -40,6 +42,12 @@ guarded_added {a} {b} {x} on c p =
       set_added = λ f. p.set_added f ∙ nested (set_in a f) on c (x (true_literal f));
       cleared_added = λ f. p.cleared_added f ∙ nested (cleared_in a f) on c (x (false_literal f));
     }
+
+-- the words left begin with effects that come to es together with those added so far
+pub record Left (s : ℕ → Bool) (on : Bool) (before so_far : Active) (ws : List ℕ) (count : ℕ) (es : Effects) (tail : List ℕ) : Type 0 where
+  pub effects : Effects
+  pub first : EffectsFirst ws count effects tail
+  pub added : {after : Active} → Added so_far on (active_any s effects) after → Added before on (active_any s es) after
 
 -- added to nothing, the literals are the active effects
 module _ (a b : Active) (x : ℕ → Bool) (empty : (f : ℕ) → (set_in a f ≡ false) × (cleared_in a f ≡ false)) (p : Added a true x b) where

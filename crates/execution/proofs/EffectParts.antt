@@ -1,5 +1,5 @@
 -- What stands behind the first word of an effect, by the kind of that word.
-use Rattle.std.proofs.Common.{◌≡◌, ℕ, ◌+◌, ◌-◌, ◌^◌, ◌<◌, List, ◌∷◌, ◌++◌, length, sym, refl, ap, ◌∙◌, subst, append_assoc, arith}
+use Rattle.std.proofs.Common.{◌≡◌, ℕ, ◌+◌, ◌^◌, ◌<◌, List, ◌∷◌, ◌++◌, length, sym, refl, ap, ◌∙◌, subst, append_assoc, arith}
 use Rattle.std.proofs.lemmas.Slice.{first_rest}
 use Rattle.sheet.specs.declared.kinds.Kind.{Kind}
 use Rattle.sheet.specs.Trees.{Formula, Effect, Effects, set, clear, group, when, count_effects}
@@ -77,28 +77,28 @@ module _ (ws tail : List ℕ) where
       let split = subst (λ (vs : List ℕ). EffectFirst vs e tail) parts p in
       subst (λ (j : Kind). OpenedEffect j (first ws) (behind ws) e tail) (sym h) (open_effect (first ws) (behind ws) tail e split)
 
--- effects of which there is none, or a first one and the others
+-- effects of which there is none, or a first one and n others
 module _ (ws : List ℕ) (count : ℕ) (tail : List ℕ) where
   pub no_members : count ≡ 0 → (es : Effects) → EffectsFirst ws count es tail → (es ≡ Effects.none) × (ws ≡ tail)
   no_members z Effects.none p = (refl, p.encoded)
   no_members z (Effects.more e es) p = absurd (omega (arith, p.counted, z))
 
-  pub record Members (es : Effects) : Type 0 where
+  pub record Members (n : ℕ) (es : Effects) : Type 0 where
     pub head : Effect
     pub others : Effects
     pub are : es ≡ Effects.more head others
     pub head_first : EffectFirst ws head (encode_effects others ++ tail)
-    pub others_next : (rest : List ℕ) → rest ≡ encode_effects others ++ tail → EffectsFirst rest (count - 1) others tail
+    pub others_next : (rest : List ℕ) → rest ≡ encode_effects others ++ tail → EffectsFirst rest n others tail
 
-  pub members : (count ≡ 0 → ⊥) → (es : Effects) → EffectsFirst ws count es tail → Members es
-  members z Effects.none p = absurd (z (sym p.counted))
-  members z (Effects.more e es) p =
+  pub members : (n : ℕ) → n + 1 ≡ count → (es : Effects) → EffectsFirst ws count es tail → Members n es
+  members n g Effects.none p = absurd (omega (arith, g, p.counted))
+  members n g (Effects.more e es) p =
       record {
         head = e;
         others = es;
         are = refl;
         head_first = record { facts = p.facts; depth = p.depth; facts_within = p.facts_within; lawful = p.lawful.0; encoded = p.encoded ∙ append_assoc (encode_effect e) (encode_effects es) tail };
-        others_next = λ rest h. record { facts = p.facts; depth = p.depth; facts_within = p.facts_within; lawful = p.lawful.1; counted = omega (arith, p.counted); encoded = h };
+        others_next = λ rest h. record { facts = p.facts; depth = p.depth; facts_within = p.facts_within; lawful = p.lawful.1; counted = omega (arith, g, p.counted); encoded = h };
       }
 
 -- a word of another kind begins no effect

@@ -1,5 +1,5 @@
 -- What stands behind the first word of a formula, by the kind of that word.
-use Rattle.std.proofs.Common.{◌≡◌, ℕ, ◌+◌, ◌-◌, ◌^◌, ◌<◌, List, ◌∷◌, ◌++◌, length, sym, refl, ap, ◌∙◌, subst, append_assoc, arith}
+use Rattle.std.proofs.Common.{◌≡◌, ℕ, ◌+◌, ◌^◌, ◌<◌, List, ◌∷◌, ◌++◌, length, sym, refl, ap, ◌∙◌, subst, append_assoc, arith}
 use Rattle.std.proofs.lemmas.Slice.{first_rest}
 use Rattle.sheet.specs.declared.kinds.Kind.{Kind}
 use Rattle.sheet.specs.Trees.{Formula, Formulas, never, always, fact, not, all, any, count_formulas}
@@ -69,28 +69,28 @@ module _ (ws tail : List ℕ) where
       let split = subst (λ (vs : List ℕ). FormulaFirst vs f tail) parts p in
       subst (λ (j : Kind). OpenedFormula j (first ws) (behind ws) f tail) (sym e) (open_formula (first ws) (behind ws) tail f split)
 
--- formulas of which there is none, or a first one and the others
+-- formulas of which there is none, or a first one and n others
 module _ (ws : List ℕ) (count : ℕ) (tail : List ℕ) where
   pub no_members : count ≡ 0 → (fs : Formulas) → FormulasFirst ws count fs tail → (fs ≡ Formulas.none) × (ws ≡ tail)
   no_members z Formulas.none p = (refl, p.encoded)
   no_members z (Formulas.more f fs) p = absurd (omega (arith, p.counted, z))
 
-  pub record Members (fs : Formulas) : Type 0 where
+  pub record Members (n : ℕ) (fs : Formulas) : Type 0 where
     pub head : Formula
     pub others : Formulas
     pub are : fs ≡ Formulas.more head others
     pub head_first : FormulaFirst ws head (encode_formulas others ++ tail)
-    pub others_next : (rest : List ℕ) → rest ≡ encode_formulas others ++ tail → FormulasFirst rest (count - 1) others tail
+    pub others_next : (rest : List ℕ) → rest ≡ encode_formulas others ++ tail → FormulasFirst rest n others tail
 
-  pub members : (count ≡ 0 → ⊥) → (fs : Formulas) → FormulasFirst ws count fs tail → Members fs
-  members z Formulas.none p = absurd (z (sym p.counted))
-  members z (Formulas.more f fs) p =
+  pub members : (n : ℕ) → n + 1 ≡ count → (fs : Formulas) → FormulasFirst ws count fs tail → Members n fs
+  members n e Formulas.none p = absurd (omega (arith, e, p.counted))
+  members n h (Formulas.more f fs) p =
       record {
         head = f;
         others = fs;
         are = refl;
         head_first = record { facts = p.facts; depth = p.depth; facts_within = p.facts_within; lawful = p.lawful.0; encoded = p.encoded ∙ append_assoc (encode_formula f) (encode_formulas fs) tail };
-        others_next = λ rest e. record { facts = p.facts; depth = p.depth; facts_within = p.facts_within; lawful = p.lawful.1; counted = omega (arith, p.counted); encoded = e };
+        others_next = λ rest e. record { facts = p.facts; depth = p.depth; facts_within = p.facts_within; lawful = p.lawful.1; counted = omega (arith, h, p.counted); encoded = e };
       }
 
 -- a word of another kind begins no formula

@@ -1,6 +1,7 @@
 pub mod WordLaws
 pub mod FormulaParts
 pub mod EffectParts
+pub mod Tallies
 pub mod Additions
 pub mod Shortcuts
 pub mod StepWords

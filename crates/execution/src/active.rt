@@ -1,5 +1,5 @@
 // The active effects of an effect, read from its words.
-ghost use Rattle.std.specs.Prelude.{◌≡◌, ℕ, ◌<◌, ◌≤◌, false, List, length, nat_eq};
+ghost use Rattle.std.specs.Prelude.{◌≡◌, ℕ, ◌<◌, ◌≤◌, false, List, length, nat_eq, if◌then◌else◌};
 ghost use Rattle.sheet.specs.Trees.{Effect, Effects};
 ghost use Rattle.execution.specs.State.{holds};
 ghost use Rattle.execution.specs.Active.{active, active_any, sets, clears, true_literal, false_literal};
@@ -8,13 +8,14 @@ ghost use Rattle.execution.specs.Reading.{BeginsEffect, BeginsEffects, EffectFir
 
 use crate::states::State;
 use crate::truth::truth;
+use bits::Set;
 use sheet::Kind;
 
 // The facts that active effects set, and those that they clear.
 #[derive(Clone, Copy)]
 pub(crate) struct Active {
-    pub(crate) set: u64,
-    pub(crate) cleared: u64,
+    pub(crate) set: Set,
+    pub(crate) cleared: Set,
 }
 
 // Active effects, and the words behind those that they were read from.
@@ -29,34 +30,25 @@ impl Active {
         ensures { (k : ℕ) → (set_in result k ≡ false) × (cleared_in result k ≡ false) }
     {
         Active {
-            set: bits::none(),
-            cleared: bits::none(),
+            set: Set::none(),
+            cleared: Set::none(),
         }
     }
 
-    fn with_set(self, fact: u32, on: bool) -> Active
-        ensures { fact < 64 → Added self on (λ l. nat_eq l (true_literal fact)) result }
+    // Adds that a fact is true or that it is false, where that is on.
+    fn with(self, fact: u32, value: bool, on: bool) -> Active
+        ensures { fact < 64 → Added self on (λ l. nat_eq l (if value then true_literal fact else false_literal fact)) result }
     {
-        if on {
-            Active {
-                set: bits::with(self.set, fact),
-                cleared: self.cleared,
-            }
-        } else {
-            self
-        }
-    }
-
-    fn with_cleared(self, fact: u32, on: bool) -> Active
-        ensures { fact < 64 → Added self on (λ l. nat_eq l (false_literal fact)) result }
-    {
-        if on {
-            Active {
-                set: self.set,
-                cleared: bits::with(self.cleared, fact),
-            }
-        } else {
-            self
+        match (on, value) {
+            (false, _) => self,
+            (true, true) => Active {
+                set: self.set.put(fact, true),
+                ..self
+            },
+            (true, false) => Active {
+                cleared: self.cleared.put(fact, true),
+                ..self
+            },
         }
     }
 }
@@ -81,11 +73,11 @@ fn gather<'a>(words: &'a [u32], before: State, on: bool, so_far: Active) -> Gath
     let rest = &words[1..];
     match sheet::kind_of(word) {
         Kind::Set => Gathered {
-            active: so_far.with_set(sheet::argument_of(word), on),
+            active: so_far.with(sheet::argument_of(word), true, on),
             rest,
         },
         Kind::Clear => Gathered {
-            active: so_far.with_cleared(sheet::argument_of(word), on),
+            active: so_far.with(sheet::argument_of(word), false, on),
             rest,
         },
         Kind::Group => members(rest, sheet::argument_of(word), before, on, so_far),
@@ -109,12 +101,12 @@ fn members<'a>(
     ensures read { (es : Effects) (tail : List ℕ) → EffectsFirst words.now count es tail → Added so_far on (active_any (holds before) es) result.active × (result.rest.now ≡ tail) }
     ensures shorter { length result.rest.now ≤ length words.now }
 {
-    if count == 0 {
-        return Gathered {
-            active: so_far,
-            rest: words,
-        };
+    let mut gathered = Gathered {
+        active: so_far,
+        rest: words,
+    };
+    for _done in 0..count {
+        gathered = gather(gathered.rest, before, on, gathered.active);
     }
-    let first = gather(words, before, on, so_far);
-    members(first.rest, count - 1, before, on, first.active)
+    gathered
 }

@@ -45,7 +45,7 @@ pub fn execute(sheet: &Sheet<'_>, step: u32, before: State) -> Result<State, Exe
         return Err(ExecutionFault::ConditionFalse);
     }
     let active = active_effects(condition.rest, before).active;
-    if clashes(active) {
+    if clashes(&active) {
         return Err(ExecutionFault::SetAndCleared);
     }
     Ok(successor(before, active))

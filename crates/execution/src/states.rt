@@ -3,9 +3,22 @@ ghost use Rattle.std.specs.Prelude.{◌≡◌, ℕ, ◌<◌, ◌≤◌, true, fa
 ghost use Rattle.bits.specs.Bits.{put};
 ghost use Rattle.execution.specs.State.{holds};
 
+use bits::Set;
+use std::marker::Model;
+
 #[derive(Clone, Copy)]
 pub struct State {
-    pub(crate) bits: u64,
+    pub(crate) bits: Set,
+}
+
+impl Model for State {
+    ghost use Rattle.std.specs.Prelude.{ℕ};
+
+    ghost Value = { ℕ };
+
+    ghost view = { λ s. s.bits };
+
+    ghost inverse = { λ n. record { bits = n } };
 }
 
 impl State {
@@ -13,13 +26,13 @@ impl State {
     pub(crate) fn none() -> State
         ensures { (k : ℕ) → holds result k ≡ false }
     {
-        State { bits: bits::none() }
+        State { bits: Set::none() }
     }
 
     pub(crate) fn holds(self, fact: u32) -> bool
         ensures { result ≡ holds self fact }
     {
-        bits::has(self.bits, fact)
+        self.bits.has(fact)
     }
 
     pub(crate) fn with(self, fact: u32) -> State
@@ -27,7 +40,7 @@ impl State {
         ensures beyond { 64 ≤ fact → result ≡ self }
     {
         State {
-            bits: bits::with(self.bits, fact),
+            bits: self.bits.put(fact, true),
         }
     }
 }

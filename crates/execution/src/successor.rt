@@ -7,16 +7,16 @@ use crate::active::Active;
 use crate::states::State;
 
 // Some fact is both set and cleared.
-pub(crate) fn clashes(active: Active) -> bool
-    ensures { Decides result ((f : ℕ) × (set_in active f ≡ true) × (cleared_in active f ≡ true)) }
+pub(crate) fn clashes(active: &Active) -> bool
+    ensures { Decides result ((f : ℕ) × (set_in active.now f ≡ true) × (cleared_in active.now f ≡ true)) }
 {
-    bits::meets(active.set, active.cleared)
+    active.set.meets(active.cleared)
 }
 
 pub(crate) fn successor(before: State, active: Active) -> State
     ensures { (f : ℕ) → holds result f ≡ (if set_in active f then true else (if cleared_in active f then false else holds before f)) }
 {
     State {
-        bits: bits::union(bits::difference(before.bits, active.cleared), active.set),
+        bits: before.bits.difference(active.cleared).union(active.set),
     }
 }

@@ -70,18 +70,16 @@ fn members<'a>(words: &'a [u32], count: u32, state: State) -> Tallied<'a>
     ensures read { (fs : Formulas) (tail : List ℕ) → FormulasFirst words.now count fs tail → (result.all ≡ all_true (holds state) fs) × (result.any ≡ any_true (holds state) fs) × (result.rest.now ≡ tail) }
     ensures shorter { length result.rest.now ≤ length words.now }
 {
-    if count == 0 {
-        return Tallied {
-            all: true,
-            any: false,
-            rest: words,
-        };
+    let mut tallied = Tallied {
+        all: true,
+        any: false,
+        rest: words,
+    };
+    for _done in 0..count {
+        let next = truth(tallied.rest, state);
+        tallied.all &= next.value;
+        tallied.any |= next.value;
+        tallied.rest = next.rest;
     }
-    let first = truth(words, state);
-    let others = members(first.rest, count - 1, state);
-    Tallied {
-        all: first.value && others.all,
-        any: first.value || others.any,
-        rest: others.rest,
-    }
+    tallied
 }

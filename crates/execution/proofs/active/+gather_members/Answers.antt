@@ -1,9 +1,10 @@
-use Rattle.std.proofs.Common.{◌≡◌, ℕ, ◌<◌, Bool, ◌&&◌, List, length, sym, ap, ◌∙◌, subst, arith}
+use Rattle.std.proofs.Common.{◌≡◌, ℕ, ◌<◌, Bool, ◌+◌, ◌-◌, ◌&&◌, List, length, sym, ap, ◌∙◌, subst, arith}
+use native.Mathlib.Numerals.{unary_clauses}
 use Rattle.sheet.specs.declared.kinds.Kind.{Kind}
-use Rattle.sheet.specs.Trees.{Effect, Effects, set, clear}
+use Rattle.sheet.specs.Trees.{Effect, set, clear}
 use Rattle.execution.specs.State.{holds}
 use Rattle.execution.specs.Truth.{truth}
-use Rattle.execution.specs.Active.{active, active_any}
+use Rattle.execution.specs.Active.{active}
 use Rattle.execution.specs.Gathered.{Added}
 use Rattle.execution.specs.Reading.{BeginsEffect}
 use Rattle.execution.proofs.WordLaws.{behind_shorter}
@@ -60,7 +61,7 @@ gather-returns-in-Set t c =
       read = λ e tail p.
           let o = opened_effect ws tail Kind.Set c.in-Set.ensures e p in
           let is = ap set c.argument_of.ensures ∙ sym o.0 in
-          (subst (λ (d : Effect). Added c.args.so_far c.args.on (active (holds c.args.before) d) c.with_set.result) is (c.with_set.ensures (omega (arith, o.1, c.argument_of.ensures))), o.2);
+          (subst (λ (d : Effect). Added c.args.so_far c.args.on (active (holds c.args.before) d) c.with.result) is (c.with.ensures (omega (arith, o.1, c.argument_of.ensures))), o.2);
       shorter = behind_shorter ws (begun ws c.requires);
     }
 
@@ -71,7 +72,7 @@ gather-returns-in-Clear t c =
       read = λ e tail p.
           let o = opened_effect ws tail Kind.Clear c.in-Clear.ensures e p in
           let is = ap clear c.argument_of-in-Clear.ensures ∙ sym o.0 in
-          (subst (λ (d : Effect). Added c.args.so_far c.args.on (active (holds c.args.before) d) c.with_cleared.result) is (c.with_cleared.ensures (omega (arith, o.1, c.argument_of-in-Clear.ensures))), o.2);
+          (subst (λ (d : Effect). Added c.args.so_far c.args.on (active (holds c.args.before) d) c.with-in-Clear.result) is (c.with-in-Clear.ensures (omega (arith, o.1, c.argument_of-in-Clear.ensures))), o.2);
       shorter = behind_shorter ws (begun ws c.requires);
     }
 
@@ -106,35 +107,40 @@ gather-returns-after-on t c =
       shorter = omega (arith, c.gather.ensures.shorter, c.truth-condition.ensures.shorter, behind_shorter ws (begun ws c.requires));
     }
 
-pub members-returns-then-count-eq0 : goal.members-returns-then-count-eq0
-members-returns-then-count-eq0 t c =
-    let s = holds c.args.before in
+pub members-gather-gathered-requires : goal.members-gather-gathered-requires
+members-gather-gathered-requires t c =
+    let left = c.loop-done.invariant.read _ _ c.requires.2 in
+    let m = members _ _ _ (c.args.count - (c.loop-done._done + 1)) (omega arith) _ left.first in
+    (omega (arith, c.decreases, c.loop-done.invariant.shorter), (m.head, _, m.head_first))
+
+pub members-loop-done-init : goal.members-loop-done-init
+members-loop-done-init t c =
     record {
-      read = λ es tail p.
-          let o = no_members c.args.words.now c.args.count tail c.if-count-eq0.true es p in
-          (subst (λ (ds : Effects). Added c.args.so_far c.args.on (active_any s ds) c.args.so_far) (sym o.0) (none_added c.args.so_far c.args.on), o.1);
       shorter = omega arith;
+      read = λ es tail p. record { effects = es; first = simp unary_clauses p; added = λ q. q };
     }
 
-pub members-gather-first-requires : goal.members-gather-first-requires
-members-gather-first-requires t c =
-    let m = members c.args.words.now c.args.count c.requires.1 c.if-count-eq0.false c.requires.0 c.requires.2 in
-    (omega (arith, c.decreases), (m.head, _, m.head_first))
-
-pub members-members-requires : goal.members-members-requires
-members-members-requires t c =
-    let m = members c.args.words.now c.args.count c.requires.1 c.if-count-eq0.false c.requires.0 c.requires.2 in
-    let behind_head = (c.gather-first.ensures.read m.head _ m.head_first).1 in
-    (omega (arith, c.decreases, c.gather-first.ensures.shorter), (m.others, c.requires.1, m.others_next _ behind_head))
+pub members-loop-done-preserved : goal.members-loop-done-preserved
+members-loop-done-preserved t c =
+    record {
+      shorter = omega (arith, c.gather-gathered.ensures.shorter, c.loop-done.invariant.shorter);
+      read = λ es tail p.
+          let left = c.loop-done.invariant.read es tail p in
+          let m = members _ _ tail (c.args.count - (c.loop-done._done + 1)) (omega arith) left.effects left.first in
+          let next = c.gather-gathered.ensures.read m.head _ m.head_first in
+          record {
+            effects = m.others;
+            first = m.others_next _ next.1;
+            added = λ q. left.added (rw m.are (then_added next.0 q));
+          };
+    }
 
 pub members-returns : goal.members-returns
 members-returns t c =
-    let s = holds c.args.before in
     record {
       read = λ es tail p.
-          let m = members c.args.words.now c.args.count tail c.if-count-eq0.false es p in
-          let head = c.gather-first.ensures.read m.head _ m.head_first in
-          let others = c.members.ensures.read m.others tail (m.others_next _ head.1) in
-          (subst (λ (ds : Effects). Added c.args.so_far c.args.on (active_any s ds) c.members.result.active) (sym m.are) (then_added head.0 others.0), others.1);
-      shorter = omega (arith, c.gather-first.ensures.shorter, c.members.ensures.shorter);
+          let left = c.loop-done.invariant.read es tail p in
+          let none = no_members _ _ tail (omega arith) left.effects left.first in
+          (left.added (rw none.0 (none_added c.loop-done.gathered.active c.args.on)), none.1);
+      shorter = c.loop-done.invariant.shorter;
     }

@@ -1,58 +1,52 @@
-use Rattle.std.proofs.Common.{◌≡◌, ℕ, ◌<◌, Bool, not as negated, ◌&&◌, ◌||◌, List, length, sym, ap, ◌∙◌, ap₂, arith}
+use Rattle.std.proofs.Common.{ℕ, ◌<◌, not as negated, ◌+◌, ◌-◌, List, length, refl, sym, ap, ◌∙◌, arith}
+use native.Mathlib.Numerals.{unary_clauses}
 use Rattle.sheet.specs.declared.kinds.Kind.{Kind}
 use Rattle.execution.specs.State.{holds}
-use Rattle.execution.specs.Truth.{truth, all_true, any_true}
+use Rattle.execution.specs.Truth.{truth}
 use Rattle.execution.specs.Reading.{BeginsFormula}
 use Rattle.execution.proofs.WordLaws.{behind_shorter}
 use Rattle.execution.proofs.FormulaParts.{formula_begun, opened_formula, no_members, members, no_formula}
-use Rattle.execution.proofs.Shortcuts.{and_then, and_else, or_then, or_else}
 use Rattle.execution.proofs.truth.+members_truth.Goals as goal
-use Rattle.execution.proofs.truth.+members_truth.Goals.{members-then-first, members-else-first, members-then-first-2, members-else-first-2}
 
-pub members-returns-then-count-eq0 : goal.members-returns-then-count-eq0
-members-returns-then-count-eq0 t c =
-    let s = holds c.args.state in
+pub members-truth-next-requires : goal.members-truth-next-requires
+members-truth-next-requires t c =
+    let left = c.loop-done.invariant.read _ _ c.requires.2 in
+    let m = members _ _ _ (c.args.count - (c.loop-done._done + 1)) (omega arith) _ left.first in
+    (omega (arith, c.decreases, c.loop-done.invariant.shorter), (m.head, _, m.head_first))
+
+pub members-loop-done-init : goal.members-loop-done-init
+members-loop-done-init t c =
     record {
-      read = λ fs tail p.
-          let o = no_members c.args.words.now c.args.count tail c.if-count-eq0.true fs p in
-          (sym (ap (all_true s) o.0), sym (ap (any_true s) o.0), o.1);
       shorter = omega arith;
+      read = λ fs tail p. record { formulas = fs; first = simp unary_clauses p; all_is = refl; any_is = refl };
     }
 
-pub members-truth-first-requires : goal.members-truth-first-requires
-members-truth-first-requires t c =
-    let m = members c.args.words.now c.args.count c.requires.1 c.if-count-eq0.false c.requires.0 c.requires.2 in
-    (omega (arith, c.decreases), (m.head, _, m.head_first))
-
-pub members-members-others-requires : goal.members-members-others-requires
-members-members-others-requires t c =
-    let m = members c.args.words.now c.args.count c.requires.1 c.if-count-eq0.false c.requires.0 c.requires.2 in
-    let behind_head = (c.truth-first.ensures.read m.head _ m.head_first).1 in
-    (omega (arith, c.decreases, c.truth-first.ensures.shorter), (m.others, c.requires.1, m.others_next _ behind_head))
+pub members-loop-done-preserved : goal.members-loop-done-preserved
+members-loop-done-preserved t c =
+    let s = holds c.args.state in
+    record {
+      shorter = omega (arith, c.truth-next.ensures.shorter, c.loop-done.invariant.shorter);
+      read = λ fs tail p.
+          let left = c.loop-done.invariant.read fs tail p in
+          let m = members _ _ tail (c.args.count - (c.loop-done._done + 1)) (omega arith) left.formulas left.first in
+          let next = c.truth-next.ensures.read m.head _ m.head_first in
+          record {
+            formulas = m.others;
+            first = m.others_next _ next.1;
+            all_is = grind (arith, rw m.are at left.all_is, next.0);
+            any_is = grind (arith, rw m.are at left.any_is, next.0);
+          };
+    }
 
 pub members-returns : goal.members-returns
 members-returns t c =
     let s = holds c.args.state in
-    let all_is : c.if-first.result ≡ (c.truth-first.result.value && c.members-others.result.all) =
-    elim c.if-first.branch [
-      | members-then-first w ↦ and_then _ _ _ w.if-first.true w.result-is
-      | members-else-first w ↦ and_else _ _ _ w.if-first.false w.result-is
-    ] in
-    let any_is : c.if-first-2.result ≡ (c.truth-first.result.value || c.members-others.result.any) =
-    elim c.if-first-2.branch [
-      | members-then-first-2 w ↦ or_then _ _ _ w.if-first-2.true w.result-is
-      | members-else-first-2 w ↦ or_else _ _ _ w.if-first-2.false w.result-is
-    ] in
     record {
       read = λ fs tail p.
-          let m = members c.args.words.now c.args.count tail c.if-count-eq0.false fs p in
-          let head = c.truth-first.ensures.read m.head _ m.head_first in
-          let others = c.members-others.ensures.read m.others tail (m.others_next _ head.1) in (
-            all_is ∙ ap₂ (λ (x y : Bool). x && y) head.0 others.0 ∙ sym (ap (all_true s) m.are),
-            any_is ∙ ap₂ (λ (x y : Bool). x || y) head.0 others.1 ∙ sym (ap (any_true s) m.are),
-            others.2,
-          );
-      shorter = omega (arith, c.truth-first.ensures.shorter, c.members-others.ensures.shorter);
+          let left = c.loop-done.invariant.read fs tail p in
+          let none = no_members _ _ tail (omega arith) left.formulas left.first in
+          (grind (arith, rw none.0 at left.all_is), grind (arith, rw none.0 at left.any_is), none.1);
+      shorter = c.loop-done.invariant.shorter;
     }
 
 begun : (ws : List ℕ) → BeginsFormula ws → 0 < length ws

@@ -1,4 +1,8 @@
-use Rattle.std.proofs.Common.{◌+◌, ◌*◌, length}
+use Rattle.std.proofs.Common.{◌+◌, ◌-◌, ◌*◌, ◌≤◌, List, ℕ, length}
+use Rattle.sheet.specs.Trees.{Formulas}
+use Rattle.execution.specs.State.{holds}
+use Rattle.execution.specs.Reading.{FormulasFirst}
+use Rattle.execution.proofs.Tallies.{Left}
 use Rattle.execution.proofs.truth.+members_truth.Given as goal
 
 abbrev pub decreases-members : goal.decreases-members
@@ -6,3 +10,10 @@ decreases-members l = 2 * length l.words.now + 1
 
 abbrev pub decreases-truth : goal.decreases-truth
 decreases-truth l = 2 * length l.words.now
+
+abbrev pub invariant-members-loop-done : goal.invariant-members-loop-done
+invariant-members-loop-done l =
+    record {
+      shorter : length l.tallied.rest.now ≤ length l.initial.words;
+      read : (fs : Formulas) (tail : List ℕ) → FormulasFirst l.initial.words l.count fs tail → Left (holds l.state) l.tallied.all l.tallied.any l.tallied.rest.now (l.count - l._done) fs tail;
+    }
