@@ -5,7 +5,7 @@ use Rattle.execution.specs.State.{holds}
 use Rattle.execution.specs.Truth.{truth}
 use Rattle.execution.specs.Reading.{BeginsFormula}
 use Rattle.execution.proofs.WordLaws.{behind_shorter}
-use Rattle.execution.proofs.FormulaParts.{formula_begun, opened_formula, no_members, members, no_formula}
+use Rattle.execution.proofs.FormulaParts.{formula_shorter, opened_formula, no_members, members, no_formula}
 use Rattle.execution.proofs.truth.+members_truth.Goals as goal
 
 pub members-truth-next-requires : goal.members-truth-next-requires
@@ -50,7 +50,7 @@ members-returns t c =
     }
 
 begun : (ws : List ℕ) → BeginsFormula ws → 0 < length ws
-begun ws b = formula_begun ws b.1 b.0 b.2
+begun ws b = omega (arith, formula_shorter b.0 b.2)
 
 pub truth-bounds-words-0 : goal.truth-bounds-words-0
 truth-bounds-words-0 t c = begun c.args.words.now c.requires
@@ -64,25 +64,25 @@ truth-slice_bounds-rest-start t c = begun c.args.words.now c.requires
 pub truth-truth-inner-requires : goal.truth-truth-inner-requires
 truth-truth-inner-requires t c =
     let ws = c.args.words.now in
-    let o = opened_formula ws c.requires.1 Kind.Not c.in-Not.ensures c.requires.0 c.requires.2 in
+    let o = opened_formula Kind.Not c.in-Not.ensures c.requires.0 c.requires.2 in
     (omega (arith, c.decreases, behind_shorter ws (begun ws c.requires)), (o.0, c.requires.1, o.2))
 
 pub truth-members-inner-requires : goal.truth-members-inner-requires
 truth-members-inner-requires t c =
     let ws = c.args.words.now in
-    let o = opened_formula ws c.requires.1 Kind.All c.in-All.ensures c.requires.0 c.requires.2 in
+    let o = opened_formula Kind.All c.in-All.ensures c.requires.0 c.requires.2 in
     (omega (arith, c.decreases, behind_shorter ws (begun ws c.requires)), (o.0, c.requires.1, rw c.argument_of-in-All.ensures o.2))
 
 pub truth-members-inner-requires-in-Any : goal.truth-members-inner-requires-in-Any
 truth-members-inner-requires-in-Any t c =
     let ws = c.args.words.now in
-    let o = opened_formula ws c.requires.1 Kind.Any c.in-Any.ensures c.requires.0 c.requires.2 in
+    let o = opened_formula Kind.Any c.in-Any.ensures c.requires.0 c.requires.2 in
     (omega (arith, c.decreases, behind_shorter ws (begun ws c.requires)), (o.0, c.requires.1, rw c.argument_of-in-Any.ensures o.2))
 
 pub truth-unreachable-requires : goal.truth-unreachable-requires
 truth-unreachable-requires t c =
     let ws = c.args.words.now in
-    let o = opened_formula ws c.requires.1 c.kind_of.result c.kind_of.ensures c.requires.0 c.requires.2 in
+    let o = opened_formula c.kind_of.result c.kind_of.ensures c.requires.0 c.requires.2 in
     let r = c.in_default in
     no_formula _ r.not-Never r.not-Always r.not-Fact r.not-Not r.not-All r.not-Any _ _ _ _ o
 
@@ -91,7 +91,7 @@ truth-returns-in-Never t c =
     let ws = c.args.words.now in
     record {
       read = λ f tail p.
-          let o = opened_formula ws tail Kind.Never c.in-Never.ensures f p in
+          let o = opened_formula Kind.Never c.in-Never.ensures f p in
           (sym (ap (truth (holds c.args.state)) o.0), o.1);
       shorter = behind_shorter ws (begun ws c.requires);
     }
@@ -101,7 +101,7 @@ truth-returns-in-Always t c =
     let ws = c.args.words.now in
     record {
       read = λ f tail p.
-          let o = opened_formula ws tail Kind.Always c.in-Always.ensures f p in
+          let o = opened_formula Kind.Always c.in-Always.ensures f p in
           (sym (ap (truth (holds c.args.state)) o.0), o.1);
       shorter = behind_shorter ws (begun ws c.requires);
     }
@@ -112,7 +112,7 @@ truth-returns-in-Fact t c =
     let s = holds c.args.state in
     record {
       read = λ f tail p.
-          let o = opened_formula ws tail Kind.Fact c.in-Fact.ensures f p in
+          let o = opened_formula Kind.Fact c.in-Fact.ensures f p in
           (c.holds.ensures ∙ ap s c.argument_of.ensures ∙ sym (ap (truth s) o.0), o.1);
       shorter = behind_shorter ws (begun ws c.requires);
     }
@@ -123,7 +123,7 @@ truth-returns-in-Not t c =
     let s = holds c.args.state in
     record {
       read = λ f tail p.
-          let o = opened_formula ws tail Kind.Not c.in-Not.ensures f p in
+          let o = opened_formula Kind.Not c.in-Not.ensures f p in
           let inner = c.truth-inner.ensures.read o.0 tail o.2 in
           (ap negated inner.0 ∙ sym (ap (truth s) o.1), inner.1);
       shorter = omega (arith, c.truth-inner.ensures.shorter, behind_shorter ws (begun ws c.requires));
@@ -135,7 +135,7 @@ truth-returns-in-All t c =
     let s = holds c.args.state in
     record {
       read = λ f tail p.
-          let o = opened_formula ws tail Kind.All c.in-All.ensures f p in
+          let o = opened_formula Kind.All c.in-All.ensures f p in
           let inner = c.members-inner.ensures.read o.0 tail (rw c.argument_of-in-All.ensures o.2) in
           (inner.0 ∙ sym (ap (truth s) o.1), inner.2);
       shorter = omega (arith, c.members-inner.ensures.shorter, behind_shorter ws (begun ws c.requires));
@@ -147,7 +147,7 @@ truth-returns-in-Any t c =
     let s = holds c.args.state in
     record {
       read = λ f tail p.
-          let o = opened_formula ws tail Kind.Any c.in-Any.ensures f p in
+          let o = opened_formula Kind.Any c.in-Any.ensures f p in
           let inner = c.members-inner-in-Any.ensures.read o.0 tail (rw c.argument_of-in-Any.ensures o.2) in
           (inner.1 ∙ sym (ap (truth s) o.1), inner.2);
       shorter = omega (arith, c.members-inner-in-Any.ensures.shorter, behind_shorter ws (begun ws c.requires));
