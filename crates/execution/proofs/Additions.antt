@@ -1,5 +1,5 @@
 -- Active effects that are added one after the other, and under a condition.
-use Rattle.std.proofs.Common.{◌≡◌, ℕ, Bool, true, false, ◌&&◌, ◌||◌, refl, List, ap, ◌∙◌}
+use Rattle.std.proofs.Common.{◌≡◌, ℕ, ◌≤◌, Bool, true, false, ◌&&◌, ◌||◌, refl, List, length, ap, ◌∙◌}
 use Rattle.execution.specs.declared.active.Active.{Active}
 use Rattle.execution.specs.Active.{true_literal, false_literal, active_any}
 use Rattle.execution.specs.Gathered.{set_in, cleared_in, Added}
@@ -44,9 +44,10 @@ guarded_added {a} {b} {x} on c p =
     }
 
 -- the words left begin with effects that come to es together with those added so far
-pub record Left (s : ℕ → Bool) (on : Bool) (before so_far : Active) (ws : List ℕ) (count : ℕ) (es : Effects) (tail : List ℕ) : Type 0 where
+pub record Left (s : ℕ → Bool) (words : List ℕ) (es : Effects) (on : Bool) (before so_far : Active) (ws : List ℕ) (count : ℕ) (tail : List ℕ) : Type 0 where
   pub effects : Effects
   pub first : EffectsFirst ws count effects tail
+  pub shorter : length ws ≤ length words
   pub added : {after : Active} → Added so_far on (active_any s effects) after → Added before on (active_any s es) after
 
 -- added to nothing, the literals are the active effects

@@ -1,12 +1,21 @@
--- What stands behind the first word of an effect, by the kind of that word.
-use Rattle.std.proofs.Common.{◌≡◌, ℕ, ◌+◌, ◌^◌, ◌<◌, List, ◌∷◌, ◌++◌, length, sym, refl, ap, ◌∙◌, subst, append_assoc, arith}
+-- What stands behind the first word of an effect, by the kind of that word, and of effects the first and the others.
+use Rattle.std.proofs.Common.{◌≡◌, ℕ, ◌+◌, ◌^◌, ◌<◌, ◌≤◌, List, ◌∷◌, ◌++◌, length, sym, refl, ap, ◌∙◌, subst, append_assoc, arith, length-append}
 use Rattle.std.proofs.lemmas.Slice.{first_rest}
 use Rattle.sheet.specs.declared.kinds.Kind.{Kind}
 use Rattle.sheet.specs.Trees.{Formula, Effect, Effects, set, clear, group, when, count_effects}
 use Rattle.sheet.specs.Encoding.{encode_formula, encode_effect, encode_effects}
 use Rattle.sheet.specs.Kinds.{row, argument}
+use Rattle.sheet.specs.Lawful.{LawfulEffect, LawfulEffects}
 use Rattle.execution.specs.Reading.{FormulaFirst, EffectFirst, EffectsFirst}
+use Rattle.execution.proofs.FormulaParts.{formula_first}
 use Rattle.execution.proofs.WordLaws.{kind_at, argument_at, first_word, other_words, first, behind}
+
+module _ {n : ℕ} (d : ℕ) (few : n ≤ 64) where
+  pub effect_first : {e : Effect} {ws tail : List ℕ} → LawfulEffect n d e → ws ≡ encode_effect e ++ tail → EffectFirst ws e tail
+  effect_first lawful encoded = record { facts = n; depth = d; facts_within = few; lawful = lawful; encoded = encoded }
+
+  pub effects_first : {es : Effects} {ws tail : List ℕ} {count : ℕ} → LawfulEffects n d es → count_effects es ≡ count → ws ≡ encode_effects es ++ tail → EffectsFirst ws count es tail
+  effects_first lawful counted encoded = record { facts = n; depth = d; facts_within = few; lawful = lawful; counted = counted; encoded = encoded }
 
 -- a guarded effect: its condition, and the effect behind that
 pub record Guarded (ws : List ℕ) (e : Effect) (tail : List ℕ) : Type 0 where
@@ -17,63 +26,50 @@ pub record Guarded (ws : List ℕ) (e : Effect) (tail : List ℕ) : Type 0 where
   pub effect_next : (rest : List ℕ) → rest ≡ encode_effect effect ++ tail → EffectFirst rest effect tail
 
 abbrev pub OpenedEffect : Kind → ℕ → List ℕ → Effect → List ℕ → Type 0
-OpenedEffect Kind.Never w ws e tail = ⊥
-OpenedEffect Kind.Always w ws e tail = ⊥
-OpenedEffect Kind.Fact w ws e tail = ⊥
-OpenedEffect Kind.Not w ws e tail = ⊥
-OpenedEffect Kind.All w ws e tail = ⊥
-OpenedEffect Kind.Any w ws e tail = ⊥
 OpenedEffect Kind.Set w ws e tail = (e ≡ set (argument w)) × (argument w < 64) × (ws ≡ tail)
 OpenedEffect Kind.Clear w ws e tail = (e ≡ clear (argument w)) × (argument w < 64) × (ws ≡ tail)
 OpenedEffect Kind.Group w ws e tail = (es : Effects) × (e ≡ group es) × EffectsFirst ws (argument w) es tail
 OpenedEffect Kind.When w ws e tail = Guarded ws e tail
-OpenedEffect Kind.Step w ws e tail = ⊥
-OpenedEffect Kind.Goal w ws e tail = ⊥
-OpenedEffect Kind.Sheet w ws e tail = ⊥
-OpenedEffect Kind.Start w ws e tail = ⊥
-OpenedEffect Kind.End w ws e tail = ⊥
-OpenedEffect Kind.Unused w ws e tail = ⊥
+OpenedEffect k w ws e tail = ⊥
 
 module _ (w : ℕ) (ws tail : List ℕ) where
-  at_kind : (e : Effect) (k : Kind) → (row w).kind ≡ k → OpenedEffect k w ws e tail → OpenedEffect (row w).kind w ws e tail
-  at_kind e k h o = subst (λ (j : Kind). OpenedEffect j w ws e tail) (sym h) o
-
   open_effect : (e : Effect) → EffectFirst (w ∷ ws) e tail → OpenedEffect (row w).kind w ws e tail
   open_effect (set f) p =
       let small : f < 2 ^ 28 = omega (arith, p.lawful.1, p.facts_within) in
       let is = argument_at 6 f small (first_word p.encoded) in
-      at_kind (set f) Kind.Set (kind_at 6 f small (first_word p.encoded))
+      rw (kind_at 6 f small (first_word p.encoded))
       (ap set (sym is), omega (arith, is, p.lawful.1, p.facts_within), other_words p.encoded)
   open_effect (clear f) p =
       let small : f < 2 ^ 28 = omega (arith, p.lawful.1, p.facts_within) in
       let is = argument_at 7 f small (first_word p.encoded) in
-      at_kind (clear f) Kind.Clear (kind_at 7 f small (first_word p.encoded))
+      rw (kind_at 7 f small (first_word p.encoded))
       (ap clear (sym is), omega (arith, is, p.lawful.1, p.facts_within), other_words p.encoded)
   open_effect (group es) p =
       let small : count_effects es < 2 ^ 28 = omega (arith, p.lawful.1) in
       let e = first_word p.encoded in
-      at_kind (group es) Kind.Group (kind_at 8 (count_effects es) small e)
-      (es, refl, record { facts = p.facts; depth = p.depth + 1; facts_within = p.facts_within; lawful = p.lawful.2; counted = sym (argument_at 8 (count_effects es) small e); encoded = other_words p.encoded })
+      let members = effects_first (p.depth + 1) p.facts_within p.lawful.2 (sym (argument_at 8 (count_effects es) small e)) (other_words p.encoded) in
+      rw (kind_at 8 (count_effects es) small e) (es, refl, members)
   open_effect (when f e) p =
-      at_kind (when f e) Kind.When (kind_at 9 0 (omega arith) (first_word p.encoded))
+      rw (kind_at 9 0 (omega arith) (first_word p.encoded))
       (record {
         condition = f;
         effect = e;
         is = refl;
-        condition_first = record { facts = p.facts; depth = p.depth + 1; facts_within = p.facts_within; lawful = p.lawful.1; encoded = other_words p.encoded ∙ append_assoc (encode_formula f) (encode_effect e) tail };
-        effect_next = λ rest h. record { facts = p.facts; depth = p.depth + 1; facts_within = p.facts_within; lawful = p.lawful.2; encoded = h };
+        condition_first = formula_first (p.depth + 1) p.facts_within p.lawful.1 (other_words p.encoded ∙ append_assoc (encode_formula f) (encode_effect e) tail);
+        effect_next = λ rest h. effect_first (p.depth + 1) p.facts_within p.lawful.2 h;
       })
 
-module _ (ws tail : List ℕ) where
-  pub effect_begun : (e : Effect) → EffectFirst ws e tail → 0 < length ws
-  effect_begun (set f) p = rw p.encoded (omega arith)
-  effect_begun (clear f) p = rw p.encoded (omega arith)
-  effect_begun (group es) p = rw p.encoded (omega arith)
-  effect_begun (when f e) p = rw p.encoded (omega arith)
+encoded_begun : (e : Effect) → 0 < length (encode_effect e)
+encoded_begun (set f) = omega arith
+encoded_begun e = omega arith
+
+module _ {ws tail : List ℕ} where
+  pub effect_shorter : (e : Effect) → EffectFirst ws e tail → length tail < length ws
+  effect_shorter e p = omega (arith, ap length p.encoded, length-append (encode_effect e) tail, encoded_begun e)
 
   pub opened_effect : (k : Kind) → k ≡ (row (first ws)).kind → (e : Effect) → EffectFirst ws e tail → OpenedEffect k (first ws) (behind ws) e tail
   opened_effect k h e p =
-      let parts = first_rest ws 0 (effect_begun e p) in
+      let parts = first_rest ws 0 (omega (arith, effect_shorter e p)) in
       let split = subst (λ (vs : List ℕ). EffectFirst vs e tail) parts p in
       subst (λ (j : Kind). OpenedEffect j (first ws) (behind ws) e tail) (sym h) (open_effect (first ws) (behind ws) tail e split)
 
@@ -97,26 +93,15 @@ module _ (ws : List ℕ) (count : ℕ) (tail : List ℕ) where
         head = e;
         others = es;
         are = refl;
-        head_first = record { facts = p.facts; depth = p.depth; facts_within = p.facts_within; lawful = p.lawful.0; encoded = p.encoded ∙ append_assoc (encode_effect e) (encode_effects es) tail };
-        others_next = λ rest h. record { facts = p.facts; depth = p.depth; facts_within = p.facts_within; lawful = p.lawful.1; counted = omega (arith, g, p.counted); encoded = h };
+        head_first = effect_first p.depth p.facts_within p.lawful.0 (p.encoded ∙ append_assoc (encode_effect e) (encode_effects es) tail);
+        others_next = λ rest h. effects_first p.depth p.facts_within p.lawful.1 (omega (arith, g, p.counted)) h;
       }
 
 -- a word of another kind begins no effect
 pub no_effect : (k : Kind) → (k ≡ Kind.Set → ⊥) → (k ≡ Kind.Clear → ⊥) → (k ≡ Kind.Group → ⊥) → (k ≡ Kind.When → ⊥)
     → (w : ℕ) (ws : List ℕ) (e : Effect) (tail : List ℕ) → OpenedEffect k w ws e tail → ⊥
-no_effect Kind.Never a b c d w ws e tail o = o
-no_effect Kind.Always a b c d w ws e tail o = o
-no_effect Kind.Fact a b c d w ws e tail o = o
-no_effect Kind.Not a b c d w ws e tail o = o
-no_effect Kind.All a b c d w ws e tail o = o
-no_effect Kind.Any a b c d w ws e tail o = o
 no_effect Kind.Set a b c d w ws e tail o = a refl
 no_effect Kind.Clear a b c d w ws e tail o = b refl
 no_effect Kind.Group a b c d w ws e tail o = c refl
 no_effect Kind.When a b c d w ws e tail o = d refl
-no_effect Kind.Step a b c d w ws e tail o = o
-no_effect Kind.Goal a b c d w ws e tail o = o
-no_effect Kind.Sheet a b c d w ws e tail o = o
-no_effect Kind.Start a b c d w ws e tail o = o
-no_effect Kind.End a b c d w ws e tail o = o
-no_effect Kind.Unused a b c d w ws e tail o = o
+no_effect k a b c d w ws e tail o = o

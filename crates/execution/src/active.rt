@@ -56,8 +56,7 @@ impl Active {
 // Every condition is read in the state before the step.
 pub(crate) fn active_effects<'a>(words: &'a [u32], before: State) -> Gathered<'a>
     requires { BeginsEffect words.now }
-    ensures read { (e : Effect) (tail : List ℕ) → EffectFirst words.now e tail → (set_in result.active ≡ sets (holds before) e) × (cleared_in result.active ≡ clears (holds before) e) × (result.rest.now ≡ tail) }
-    ensures shorter { length result.rest.now < length words.now }
+    ensures { (e : Effect) (tail : List ℕ) → EffectFirst words.now e tail → (set_in result.active ≡ sets (holds before) e) × (cleared_in result.active ≡ clears (holds before) e) × (result.rest.now ≡ tail) }
 {
     gather(words, before, true, Active::none())
 }
@@ -66,26 +65,26 @@ pub(crate) fn active_effects<'a>(words: &'a [u32], before: State) -> Gathered<'a
 #[cycle(gather_members)]
 fn gather<'a>(words: &'a [u32], before: State, on: bool, so_far: Active) -> Gathered<'a>
     requires { BeginsEffect words.now }
-    ensures read { (e : Effect) (tail : List ℕ) → EffectFirst words.now e tail → Added so_far on (active (holds before) e) result.active × (result.rest.now ≡ tail) }
-    ensures shorter { length result.rest.now < length words.now }
+    ensures { (e : Effect) (tail : List ℕ) → EffectFirst words.now e tail → Added so_far on (active (holds before) e) result.active × (result.rest.now ≡ tail) }
 {
-    let word = words[0];
-    let rest = &words[1..];
-    match sheet::kind_of(word) {
+    let [word, rest @ ..] = words else {
+        unreachable!()
+    };
+    match sheet::kind_of(*word) {
         Kind::Set => Gathered {
-            active: so_far.with(sheet::argument_of(word), true, on),
+            active: so_far.with(sheet::argument_of(*word), true, on),
             rest,
         },
         Kind::Clear => Gathered {
-            active: so_far.with(sheet::argument_of(word), false, on),
+            active: so_far.with(sheet::argument_of(*word), false, on),
             rest,
         },
-        Kind::Group => members(rest, sheet::argument_of(word), before, on, so_far),
+        Kind::Group => members(rest, sheet::argument_of(*word), before, on, so_far),
         Kind::When => {
             let condition = truth(rest, before);
             gather(condition.rest, before, on && condition.value, so_far)
         }
-        _ => unreachable(),
+        _ => unreachable!(),
     }
 }
 
@@ -98,8 +97,7 @@ fn members<'a>(
     so_far: Active,
 ) -> Gathered<'a>
     requires { BeginsEffects words.now count }
-    ensures read { (es : Effects) (tail : List ℕ) → EffectsFirst words.now count es tail → Added so_far on (active_any (holds before) es) result.active × (result.rest.now ≡ tail) }
-    ensures shorter { length result.rest.now ≤ length words.now }
+    ensures { (es : Effects) (tail : List ℕ) → EffectsFirst words.now count es tail → Added so_far on (active_any (holds before) es) result.active × (result.rest.now ≡ tail) }
 {
     let mut gathered = Gathered {
         active: so_far,

@@ -26,16 +26,16 @@ struct Tallied<'a> {
 #[cycle(members_truth)]
 pub(crate) fn truth<'a>(words: &'a [u32], state: State) -> Valued<'a>
     requires { BeginsFormula words.now }
-    ensures read { (f : Formula) (tail : List ℕ) → FormulaFirst words.now f tail → (result.value ≡ true_in (holds state) f) × (result.rest.now ≡ tail) }
-    ensures shorter { length result.rest.now < length words.now }
+    ensures { (f : Formula) (tail : List ℕ) → FormulaFirst words.now f tail → (result.value ≡ true_in (holds state) f) × (result.rest.now ≡ tail) }
 {
-    let word = words[0];
-    let rest = &words[1..];
-    match sheet::kind_of(word) {
+    let [word, rest @ ..] = words else {
+        unreachable!()
+    };
+    match sheet::kind_of(*word) {
         Kind::Never => Valued { value: false, rest },
         Kind::Always => Valued { value: true, rest },
         Kind::Fact => Valued {
-            value: state.holds(sheet::argument_of(word)),
+            value: state.holds(sheet::argument_of(*word)),
             rest,
         },
         Kind::Not => {
@@ -46,20 +46,20 @@ pub(crate) fn truth<'a>(words: &'a [u32], state: State) -> Valued<'a>
             }
         }
         Kind::All => {
-            let inner = members(rest, sheet::argument_of(word), state);
+            let inner = members(rest, sheet::argument_of(*word), state);
             Valued {
                 value: inner.all,
                 rest: inner.rest,
             }
         }
         Kind::Any => {
-            let inner = members(rest, sheet::argument_of(word), state);
+            let inner = members(rest, sheet::argument_of(*word), state);
             Valued {
                 value: inner.any,
                 rest: inner.rest,
             }
         }
-        _ => unreachable(),
+        _ => unreachable!(),
     }
 }
 
@@ -67,8 +67,7 @@ pub(crate) fn truth<'a>(words: &'a [u32], state: State) -> Valued<'a>
 #[cycle(members_truth)]
 fn members<'a>(words: &'a [u32], count: u32, state: State) -> Tallied<'a>
     requires { BeginsFormulas words.now count }
-    ensures read { (fs : Formulas) (tail : List ℕ) → FormulasFirst words.now count fs tail → (result.all ≡ all_true (holds state) fs) × (result.any ≡ any_true (holds state) fs) × (result.rest.now ≡ tail) }
-    ensures shorter { length result.rest.now ≤ length words.now }
+    ensures { (fs : Formulas) (tail : List ℕ) → FormulasFirst words.now count fs tail → (result.all ≡ all_true (holds state) fs) × (result.any ≡ any_true (holds state) fs) × (result.rest.now ≡ tail) }
 {
     let mut tallied = Tallied {
         all: true,

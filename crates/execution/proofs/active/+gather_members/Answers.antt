@@ -1,146 +1,110 @@
-use Rattle.std.proofs.Common.{◌≡◌, ℕ, ◌<◌, Bool, ◌+◌, ◌-◌, ◌&&◌, List, length, sym, ap, ◌∙◌, subst, arith}
+use Rattle.std.proofs.Common.{◌≡◌, ℕ, ◌+◌, ◌-◌, ◌<◌, Bool, ◌&&◌, List, length, sym, ap, ◌∙◌, subst, arith}
 use native.Mathlib.Numerals.{unary_clauses}
 use Rattle.sheet.specs.declared.kinds.Kind.{Kind}
-use Rattle.sheet.specs.Trees.{Effect, set, clear}
+use Rattle.sheet.specs.Trees.{set, clear}
 use Rattle.execution.specs.State.{holds}
 use Rattle.execution.specs.Truth.{truth}
 use Rattle.execution.specs.Active.{active}
 use Rattle.execution.specs.Gathered.{Added}
 use Rattle.execution.specs.Reading.{BeginsEffect}
-use Rattle.execution.proofs.WordLaws.{behind_shorter}
-use Rattle.execution.proofs.EffectParts.{effect_begun, opened_effect, no_members, members, no_effect}
+use Rattle.execution.proofs.WordLaws.{behind, behind_shorter}
+use Rattle.execution.proofs.FormulaParts.{formula_shorter}
+use Rattle.execution.proofs.EffectParts.{effect_shorter, opened_effect, no_members, members, no_effect}
 use Rattle.execution.proofs.Additions.{none_added, then_added, guarded_added}
 use Rattle.execution.proofs.Shortcuts.{and_then, and_else}
 use Rattle.execution.proofs.active.+gather_members.Goals as goal
 use Rattle.execution.proofs.active.+gather_members.Goals.{gather-then-on, gather-else-on}
 
 begun : (ws : List ℕ) → BeginsEffect ws → 0 < length ws
-begun ws b = effect_begun ws b.1 b.0 b.2
+begun ws b = omega (arith, effect_shorter b.0 b.2)
 
-pub gather-bounds-words-0 : goal.gather-bounds-words-0
-gather-bounds-words-0 t c = begun c.args.words.now c.requires
+falls : (ws : List ℕ) → BeginsEffect ws → length (behind ws) < length ws
+falls ws b = behind_shorter ws (begun ws b)
 
-pub gather-slice_bounds-rest-count : goal.gather-slice_bounds-rest-count
-gather-slice_bounds-rest-count t c = begun c.args.words.now c.requires
-
-pub gather-slice_bounds-rest-start : goal.gather-slice_bounds-rest-start
-gather-slice_bounds-rest-start t c = begun c.args.words.now c.requires
+pub gather-unreachable-requires : goal.gather-unreachable-requires
+gather-unreachable-requires t c = absurd (omega (arith, begun _ c.requires))
 
 pub gather-members-requires : goal.gather-members-requires
 gather-members-requires t c =
-    let ws = c.args.words.now in
-    let o = opened_effect ws c.requires.1 Kind.Group c.in-Group.ensures c.requires.0 c.requires.2 in
-    (omega (arith, c.decreases, behind_shorter ws (begun ws c.requires)), (o.0, c.requires.1, rw c.argument_of-in-Group.ensures o.2))
+    let o = opened_effect Kind.Group c.in-Group.ensures c.requires.0 c.requires.2 in
+    (omega (arith, c.decreases, falls _ c.requires), (o.0, c.requires.1, rw c.argument_of-in-Group.ensures o.2))
 
 pub gather-truth-condition-requires : goal.gather-truth-condition-requires
 gather-truth-condition-requires t c =
-    let ws = c.args.words.now in
-    let o = opened_effect ws c.requires.1 Kind.When c.in-When.ensures c.requires.0 c.requires.2 in
+    let o = opened_effect Kind.When c.in-When.ensures c.requires.0 c.requires.2 in
     (o.condition, _, o.condition_first)
 
 pub gather-gather-requires : goal.gather-gather-requires
 gather-gather-requires t c =
-    let ws = c.args.words.now in
-    let o = opened_effect ws c.requires.1 Kind.When c.in-When.ensures c.requires.0 c.requires.2 in
-    let behind_condition = (c.truth-condition.ensures.read o.condition _ o.condition_first).1 in (
-      omega (arith, c.decreases, c.truth-condition.ensures.shorter, behind_shorter ws (begun ws c.requires)),
+    let o = opened_effect Kind.When c.in-When.ensures c.requires.0 c.requires.2 in
+    let behind_condition = (c.truth-condition.ensures o.condition _ o.condition_first).1 in (
+      omega (arith, c.decreases, falls _ c.requires, ap length behind_condition, formula_shorter o.condition o.condition_first),
       (o.effect, c.requires.1, o.effect_next _ behind_condition),
     )
 
-pub gather-unreachable-requires : goal.gather-unreachable-requires
-gather-unreachable-requires t c =
-    let ws = c.args.words.now in
-    let o = opened_effect ws c.requires.1 c.kind_of.result c.kind_of.ensures c.requires.0 c.requires.2 in
-    let r = c.in_default in
+pub gather-unreachable-requires-in_default-kind_of : goal.gather-unreachable-requires-in_default-kind_of
+gather-unreachable-requires-in_default-kind_of t c =
+    let o = opened_effect c.kind_of.result c.kind_of.ensures c.requires.0 c.requires.2 in
+    let r = c.in_default-kind_of in
     no_effect _ r.not-Set r.not-Clear r.not-Group r.not-When _ _ _ _ o
 
 pub gather-returns-in-Set : goal.gather-returns-in-Set
-gather-returns-in-Set t c =
-    let ws = c.args.words.now in
-    record {
-      read = λ e tail p.
-          let o = opened_effect ws tail Kind.Set c.in-Set.ensures e p in
-          let is = ap set c.argument_of.ensures ∙ sym o.0 in
-          (subst (λ (d : Effect). Added c.args.so_far c.args.on (active (holds c.args.before) d) c.with.result) is (c.with.ensures (omega (arith, o.1, c.argument_of.ensures))), o.2);
-      shorter = behind_shorter ws (begun ws c.requires);
-    }
+gather-returns-in-Set t c e tail p =
+    let o = opened_effect Kind.Set c.in-Set.ensures e p in
+    let is = ap set c.argument_of.ensures ∙ sym o.0 in
+    (rw (← is) (c.with.ensures (omega (arith, o.1, c.argument_of.ensures))), o.2)
 
 pub gather-returns-in-Clear : goal.gather-returns-in-Clear
-gather-returns-in-Clear t c =
-    let ws = c.args.words.now in
-    record {
-      read = λ e tail p.
-          let o = opened_effect ws tail Kind.Clear c.in-Clear.ensures e p in
-          let is = ap clear c.argument_of-in-Clear.ensures ∙ sym o.0 in
-          (subst (λ (d : Effect). Added c.args.so_far c.args.on (active (holds c.args.before) d) c.with-in-Clear.result) is (c.with-in-Clear.ensures (omega (arith, o.1, c.argument_of-in-Clear.ensures))), o.2);
-      shorter = behind_shorter ws (begun ws c.requires);
-    }
+gather-returns-in-Clear t c e tail p =
+    let o = opened_effect Kind.Clear c.in-Clear.ensures e p in
+    let is = ap clear c.argument_of-in-Clear.ensures ∙ sym o.0 in
+    (rw (← is) (c.with-in-Clear.ensures (omega (arith, o.1, c.argument_of-in-Clear.ensures))), o.2)
 
 pub gather-returns-in-Group : goal.gather-returns-in-Group
-gather-returns-in-Group t c =
-    let ws = c.args.words.now in
-    record {
-      read = λ e tail p.
-          let o = opened_effect ws tail Kind.Group c.in-Group.ensures e p in
-          let inner = c.members.ensures.read o.0 tail (rw c.argument_of-in-Group.ensures o.2) in
-          (subst (λ (d : Effect). Added c.args.so_far c.args.on (active (holds c.args.before) d) c.members.result.active) (sym o.1) inner.0, inner.1);
-      shorter = omega (arith, c.members.ensures.shorter, behind_shorter ws (begun ws c.requires));
-    }
+gather-returns-in-Group t c e tail p =
+    let o = opened_effect Kind.Group c.in-Group.ensures e p in
+    let inner = c.members.ensures o.0 tail (rw c.argument_of-in-Group.ensures o.2) in
+    (rw o.1 inner.0, inner.1)
 
 pub gather-returns-after-on : goal.gather-returns-after-on
-gather-returns-after-on t c =
-    let ws = c.args.words.now in
+gather-returns-after-on t c e tail p =
     let s = holds c.args.before in
     let on_is : c.if-on.gather ≡ (c.args.on && c.truth-condition.result.value) =
     elim c.if-on.branch [
       | gather-then-on w ↦ and_then _ _ _ w.if-on.true w.gather-is
       | gather-else-on w ↦ and_else _ _ _ w.if-on.false w.gather-is
     ] in
-    record {
-      read = λ e tail p.
-          let o = opened_effect ws tail Kind.When c.in-When.ensures e p in
-          let condition = c.truth-condition.ensures.read o.condition _ o.condition_first in
-          let inner = c.gather.ensures.read o.effect tail (o.effect_next _ condition.1) in
-          let on_both = on_is ∙ ap (λ (b : Bool). c.args.on && b) condition.0 in
-          let added = subst (λ (b : Bool). Added c.args.so_far b (active s o.effect) c.gather.result.active) on_both inner.0 in
-          (subst (λ (d : Effect). Added c.args.so_far c.args.on (active s d) c.gather.result.active) (sym o.is) (guarded_added c.args.on (truth s o.condition) added), inner.1);
-      shorter = omega (arith, c.gather.ensures.shorter, c.truth-condition.ensures.shorter, behind_shorter ws (begun ws c.requires));
-    }
+    let o = opened_effect Kind.When c.in-When.ensures e p in
+    let condition = c.truth-condition.ensures o.condition _ o.condition_first in
+    let inner = c.gather.ensures o.effect tail (o.effect_next _ condition.1) in
+    let on_both = on_is ∙ ap (λ (b : Bool). c.args.on && b) condition.0 in
+    let added = subst (λ (b : Bool). Added c.args.so_far b (active s o.effect) c.gather.result.active) on_both inner.0 in
+    (rw o.is (guarded_added c.args.on (truth s o.condition) added), inner.1)
 
 pub members-gather-gathered-requires : goal.members-gather-gathered-requires
 members-gather-gathered-requires t c =
-    let left = c.loop-done.invariant.read _ _ c.requires.2 in
+    let left = c.loop-done.invariant _ _ c.requires.2 in
     let m = members _ _ _ (c.args.count - (c.loop-done._done + 1)) (omega arith) _ left.first in
-    (omega (arith, c.decreases, c.loop-done.invariant.shorter), (m.head, _, m.head_first))
+    (omega (arith, c.decreases, left.shorter), (m.head, _, m.head_first))
 
 pub members-loop-done-init : goal.members-loop-done-init
-members-loop-done-init t c =
-    record {
-      shorter = omega arith;
-      read = λ es tail p. record { effects = es; first = simp unary_clauses p; added = λ q. q };
-    }
+members-loop-done-init t c es tail p =
+    record { effects = es; first = simp unary_clauses p; shorter = omega arith; added = λ q. q }
 
 pub members-loop-done-preserved : goal.members-loop-done-preserved
-members-loop-done-preserved t c =
+members-loop-done-preserved t c es tail p =
+    let left = c.loop-done.invariant es tail p in
+    let m = members _ _ tail (c.args.count - (c.loop-done._done + 1)) (omega arith) left.effects left.first in
+    let next = c.gather-gathered.ensures m.head _ m.head_first in
     record {
-      shorter = omega (arith, c.gather-gathered.ensures.shorter, c.loop-done.invariant.shorter);
-      read = λ es tail p.
-          let left = c.loop-done.invariant.read es tail p in
-          let m = members _ _ tail (c.args.count - (c.loop-done._done + 1)) (omega arith) left.effects left.first in
-          let next = c.gather-gathered.ensures.read m.head _ m.head_first in
-          record {
-            effects = m.others;
-            first = m.others_next _ next.1;
-            added = λ q. left.added (rw m.are (then_added next.0 q));
-          };
+      effects = m.others;
+      first = m.others_next _ next.1;
+      shorter = omega (arith, left.shorter, ap length next.1, effect_shorter m.head m.head_first);
+      added = λ q. left.added (rw m.are (then_added next.0 q));
     }
 
 pub members-returns : goal.members-returns
-members-returns t c =
-    record {
-      read = λ es tail p.
-          let left = c.loop-done.invariant.read es tail p in
-          let none = no_members _ _ tail (omega arith) left.effects left.first in
-          (left.added (rw none.0 (none_added c.loop-done.gathered.active c.args.on)), none.1);
-      shorter = c.loop-done.invariant.shorter;
-    }
+members-returns t c es tail p =
+    let left = c.loop-done.invariant es tail p in
+    let none = no_members _ _ tail (omega arith) left.effects left.first in
+    (left.added (rw none.0 (none_added c.loop-done.gathered.active c.args.on)), none.1)

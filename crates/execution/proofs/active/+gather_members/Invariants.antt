@@ -1,4 +1,4 @@
-use Rattle.std.proofs.Common.{ℕ, ◌+◌, ◌-◌, ◌*◌, ◌≤◌, List, length}
+use Rattle.std.proofs.Common.{ℕ, ◌+◌, ◌-◌, ◌*◌, List, length}
 use Rattle.sheet.specs.Trees.{Effects}
 use Rattle.execution.specs.State.{holds}
 use Rattle.execution.specs.Reading.{EffectsFirst}
@@ -13,7 +13,6 @@ decreases-members l = 2 * length l.words.now + 1
 
 abbrev pub invariant-members-loop-done : goal.invariant-members-loop-done
 invariant-members-loop-done l =
-    record {
-      shorter : length l.gathered.rest.now ≤ length l.initial.words;
-      read : (es : Effects) (tail : List ℕ) → EffectsFirst l.initial.words l.count es tail → Left (holds l.before) l.on l.fn.so_far l.gathered.active l.gathered.rest.now (l.count - l._done) es tail;
-    }
+    (es : Effects) (tail : List ℕ)
+    → EffectsFirst l.initial.words l.count es tail
+    → Left (holds l.before) l.initial.words es l.on l.fn.so_far l.gathered.active l.gathered.rest.now (l.count - l._done) tail

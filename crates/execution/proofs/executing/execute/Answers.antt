@@ -13,27 +13,27 @@ truth-condition-requires c = let found = c.in-Some.ensures in (_, _, condition_f
 pub returns-then-not-condition : goal.returns-then-not-condition
 returns-then-not-condition c =
     let found = c.in-Some.ensures in
-    let read = c.truth-condition.ensures.read _ _ (condition_first _ _ _ found) in
+    let read = c.truth-condition.ensures _ _ (condition_first _ _ _ found) in
     (found.on_the_sheet, sym read.0 ∙ c.if-not-condition.true)
 
 pub active_effects-requires : goal.active_effects-requires
 active_effects-requires c =
     let found = c.in-Some.ensures in
-    let read = c.truth-condition.ensures.read _ _ (condition_first _ _ _ found) in
+    let read = c.truth-condition.ensures _ _ (condition_first _ _ _ found) in
     (_, _, effect_first _ _ _ found _ read.1)
 
 pub returns-then-clashes : goal.returns-then-clashes
 returns-then-clashes c =
     let found = c.in-Some.ensures in
-    let read = c.truth-condition.ensures.read _ _ (condition_first _ _ _ found) in
-    let effects = c.active_effects.ensures.read _ _ (effect_first _ _ _ found _ read.1) in
+    let read = c.truth-condition.ensures _ _ (condition_first _ _ _ found) in
+    let effects = c.active_effects.ensures _ _ (effect_first _ _ _ found _ read.1) in
     (found.on_the_sheet, sym read.0 ∙ c.if-not-condition.false, clash_told (holds c.args.before) (step_at (tree c.args.sheet.now) c.args.step).effect _ effects.0 effects.1 (c.clashes.ensures.0 c.if-clashes.true))
 
 pub returns : goal.returns
 returns c =
     let found = c.in-Some.ensures in
-    let read = c.truth-condition.ensures.read _ _ (condition_first _ _ _ found) in
-    let effects = c.active_effects.ensures.read _ _ (effect_first _ _ _ found _ read.1) in (
+    let read = c.truth-condition.ensures _ _ (condition_first _ _ _ found) in
+    let effects = c.active_effects.ensures _ _ (effect_first _ _ _ found _ read.1) in (
       found.on_the_sheet,
       record {
         condition_true = sym read.0 ∙ c.if-not-condition.false;

@@ -7,4 +7,4 @@ truth-requires c = (_, _, goal_first _ _ _ c.in_ok-part.ensures)
 pub returns : goal.returns
 returns c =
     let found = c.in_ok-part.ensures in
-    (found.on_the_sheet, (c.truth.ensures.read _ _ (goal_first _ _ _ found)).0)
+    (found.on_the_sheet, (c.truth.ensures _ _ (goal_first _ _ _ found)).0)

@@ -1,4 +1,4 @@
-use Rattle.std.proofs.Common.{◌+◌, ◌-◌, ◌*◌, ◌≤◌, List, ℕ, length}
+use Rattle.std.proofs.Common.{ℕ, ◌+◌, ◌-◌, ◌*◌, List, length}
 use Rattle.sheet.specs.Trees.{Formulas}
 use Rattle.execution.specs.State.{holds}
 use Rattle.execution.specs.Reading.{FormulasFirst}
@@ -13,7 +13,6 @@ decreases-truth l = 2 * length l.words.now
 
 abbrev pub invariant-members-loop-done : goal.invariant-members-loop-done
 invariant-members-loop-done l =
-    record {
-      shorter : length l.tallied.rest.now ≤ length l.initial.words;
-      read : (fs : Formulas) (tail : List ℕ) → FormulasFirst l.initial.words l.count fs tail → Left (holds l.state) l.tallied.all l.tallied.any l.tallied.rest.now (l.count - l._done) fs tail;
-    }
+    (fs : Formulas) (tail : List ℕ)
+    → FormulasFirst l.initial.words l.count fs tail
+    → Left (holds l.state) l.initial.words fs l.tallied.all l.tallied.any l.tallied.rest.now (l.count - l._done) tail
