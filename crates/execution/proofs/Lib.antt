@@ -3,8 +3,6 @@ pub mod FormulaParts
 pub mod EffectParts
 pub mod Tallies
 pub mod Additions
-pub mod Shortcuts
-pub mod StepWords
-pub mod GoalWords
+pub mod PartWords
 pub mod Outcomes
 pub mod Starts

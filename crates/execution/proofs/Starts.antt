@@ -16,22 +16,8 @@ taken : (w : ℕ) (r : Read) (k : Kind) → k ≡ Kind.Start → (take_up k w r)
 taken w r k h = ap (λ (j : Kind). (take_up j w r).tree.starts) h
 
 passed : (w : ℕ) (r : Read) (k : Kind) → (k ≡ Kind.Start → ⊥) → (take_up k w r).tree.starts ≡ r.tree.starts
-passed w r Kind.Never h = refl
-passed w r Kind.Always h = refl
-passed w r Kind.Fact h = refl
-passed w r Kind.Not h = refl
-passed w r Kind.All h = refl
-passed w r Kind.Any h = refl
-passed w r Kind.Set h = refl
-passed w r Kind.Clear h = refl
-passed w r Kind.Group h = refl
-passed w r Kind.When h = refl
-passed w r Kind.Step h = refl
-passed w r Kind.Goal h = refl
-passed w r Kind.Sheet h = refl
 passed w r Kind.Start h = absurd (h refl)
-passed w r Kind.End h = refl
-passed w r Kind.Unused h = refl
+passed w r k h = refl
 
 -- at the i-th word
 module _ (ws : List ℕ) (i : ℕ) (within : i < length ws) where

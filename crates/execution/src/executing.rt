@@ -26,7 +26,7 @@ pub fn start(sheet: &Sheet<'_>) -> State
     let words = sheet.words();
     let mut state = State::none();
     for word in words {
-        if let Kind::Start = sheet::kind_of(*word) {
+        if sheet::kind_of(*word) == Kind::Start {
             state = state.with(sheet::argument_of(*word));
         }
     }

@@ -11,7 +11,6 @@ use Rattle.execution.proofs.WordLaws.{behind, behind_shorter}
 use Rattle.execution.proofs.FormulaParts.{formula_shorter}
 use Rattle.execution.proofs.EffectParts.{effect_shorter, opened_effect, no_members, members, no_effect}
 use Rattle.execution.proofs.Additions.{none_added, then_added, guarded_added}
-use Rattle.execution.proofs.Shortcuts.{and_then, and_else}
 use Rattle.execution.proofs.active.+gather_members.Goals as goal
 use Rattle.execution.proofs.active.+gather_members.Goals.{gather-then-on, gather-else-on}
 
@@ -71,8 +70,8 @@ gather-returns-after-on t c e tail p =
     let s = holds c.args.before in
     let on_is : c.if-on.gather ≡ (c.args.on && c.truth-condition.result.value) =
     elim c.if-on.branch [
-      | gather-then-on w ↦ and_then _ _ _ w.if-on.true w.gather-is
-      | gather-else-on w ↦ and_else _ _ _ w.if-on.false w.gather-is
+      | gather-then-on w ↦ grind (arith, w.if-on.true, w.gather-is)
+      | gather-else-on w ↦ grind (arith, w.if-on.false, w.gather-is)
     ] in
     let o = opened_effect Kind.When c.in-When.ensures e p in
     let condition = c.truth-condition.ensures o.condition _ o.condition_first in

@@ -4,7 +4,7 @@ use Rattle.sheet.specs.Reading.{tree}
 use Rattle.sheet.specs.Trees.{step_at}
 use Rattle.execution.specs.State.{holds}
 use Rattle.execution.proofs.Outcomes.{clash_told, clash_seen, successor_told}
-use Rattle.execution.proofs.StepWords.{condition_first, effect_first}
+use Rattle.execution.proofs.PartWords.{condition_first, effect_next}
 use Rattle.execution.proofs.executing.execute.Goals as goal
 
 pub truth-condition-requires : goal.truth-condition-requires
@@ -20,20 +20,20 @@ pub active_effects-requires : goal.active_effects-requires
 active_effects-requires c =
     let found = c.in-Some.ensures in
     let read = c.truth-condition.ensures _ _ (condition_first _ _ _ found) in
-    (_, _, effect_first _ _ _ found _ read.1)
+    (_, _, effect_next _ _ _ found _ read.1)
 
 pub returns-then-clashes : goal.returns-then-clashes
 returns-then-clashes c =
     let found = c.in-Some.ensures in
     let read = c.truth-condition.ensures _ _ (condition_first _ _ _ found) in
-    let effects = c.active_effects.ensures _ _ (effect_first _ _ _ found _ read.1) in
+    let effects = c.active_effects.ensures _ _ (effect_next _ _ _ found _ read.1) in
     (found.on_the_sheet, sym read.0 ∙ c.if-not-condition.false, clash_told (holds c.args.before) (step_at (tree c.args.sheet.now) c.args.step).effect _ effects.0 effects.1 (c.clashes.ensures.0 c.if-clashes.true))
 
 pub returns : goal.returns
 returns c =
     let found = c.in-Some.ensures in
     let read = c.truth-condition.ensures _ _ (condition_first _ _ _ found) in
-    let effects = c.active_effects.ensures _ _ (effect_first _ _ _ found _ read.1) in (
+    let effects = c.active_effects.ensures _ _ (effect_next _ _ _ found _ read.1) in (
       found.on_the_sheet,
       record {
         condition_true = sym read.0 ∙ c.if-not-condition.false;

@@ -1,4 +1,4 @@
-use Rattle.execution.proofs.GoalWords.{goal_first}
+use Rattle.execution.proofs.PartWords.{goal_first}
 use Rattle.execution.proofs.executing.satisfied.Goals as goal
 
 pub truth-requires : goal.truth-requires
