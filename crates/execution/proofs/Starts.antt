@@ -1,53 +1,45 @@
--- The facts that a sheet's START words name.
-use Rattle.std.proofs.Common.{◌≡◌, ℕ, ◌+◌, ◌<◌, ◌≤◌, Bool, true, false, cond, ◌||◌, eqb, List, [], ◌∷◌, length, get_or, drop, sym, refl, ap, ◌∙◌, subst, arith}
+-- The facts that a sheet's START words name, and the state in which they are true.
+use Rattle.std.proofs.Common.{◌≡◌, ℕ, ◌+◌, ◌<◌, ◌≤◌, Bool, true, false, cond, ◌||◌, eqb, List, [], ◌∷◌, Option, map, sym, refl, ap, ◌∙◌, subst, arith}
 use mathlib.Core.Path.{fun_ext}
-use Rattle.std.proofs.lemmas.List.{drop_more, drop_all}
+use denote.Enum.Bare.{sameb}
+use denote.Param.Members.{Mut}
+use Rattle.std.specs.Fn.{Called}
+use Rattle.std.specs.Iterator.{Drains}
+use Rattle.std.specs.List.{filter, FoldsTo}
+use Rattle.std.proofs.lemmas.Iterator.{YieldsList, items_from_drains}
 use Rattle.bits.specs.Bits.{put}
+use Rattle.sheet.specs.contracts.kinds.Kind.{the_type}
 use Rattle.sheet.specs.declared.kinds.Kind.{Kind}
 use Rattle.sheet.specs.Decoding.{decode, tree_of, Read, put as take_up}
 use Rattle.sheet.specs.Kinds.{row, argument}
 use Rattle.sheet.specs.Lawful.{Each, Ascending}
+use Rattle.execution.specs.declared.states.State.{State}
 use Rattle.execution.specs.Execution.{member, start_of}
+use Rattle.execution.specs.State.{holds}
 
-abbrev pub starts : List ℕ → List ℕ
-starts ws = (tree_of ws).starts
+abbrev pub is_start : ℕ → Bool
+is_start w = sameb the_type (row w).kind Kind.Start
 
-taken : (w : ℕ) (r : Read) (k : Kind) → k ≡ Kind.Start → (take_up k w r).tree.starts ≡ argument w ∷ r.tree.starts
-taken w r k h = ap (λ (j : Kind). (take_up j w r).tree.starts) h
+taken : (k : Kind) (w : ℕ) (r : Read) → (take_up k w r).tree.starts ≡ cond (sameb the_type k Kind.Start) (argument w ∷ r.tree.starts) r.tree.starts
+taken Kind.Start w r = refl
+taken k w r = refl
 
-passed : (w : ℕ) (r : Read) (k : Kind) → (k ≡ Kind.Start → ⊥) → (take_up k w r).tree.starts ≡ r.tree.starts
-passed w r Kind.Start h = absurd (h refl)
-passed w r k h = refl
+picked : (b : Bool) (w : ℕ) (fs ws : List ℕ) → fs ≡ map argument ws → cond b (argument w ∷ fs) fs ≡ map argument (cond b (w ∷ ws) ws)
+picked true w fs ws e = ap (λ (gs : List ℕ). argument w ∷ gs) e
+picked false w fs ws e = e
 
--- at the i-th word
-module _ (ws : List ℕ) (i : ℕ) (within : i < length ws) where
-  starts_more : (row (get_or ws i 0)).kind ≡ Kind.Start → starts (drop i ws) ≡ argument (get_or ws i 0) ∷ starts (drop (i + 1) ws)
-  unfolding decode
-  starts_more h = ap starts (drop_more ws i 0 within) ∙ taken (get_or ws i 0) (decode (drop (i + 1) ws)) (row (get_or ws i 0)).kind h
-
-  starts_other : ((row (get_or ws i 0)).kind ≡ Kind.Start → ⊥) → starts (drop i ws) ≡ starts (drop (i + 1) ws)
-  unfolding decode
-  starts_other h = ap starts (drop_more ws i 0 within) ∙ passed (get_or ws i 0) (decode (drop (i + 1) ws)) (row (get_or ws i 0)).kind h
-
-starts_none : starts [] ≡ []
+named : (ws : List ℕ) → (tree_of ws).starts ≡ map argument (filter is_start ws)
 unfolding decode
-starts_none = refl
+named [] = refl
+named (w ∷ ws) = taken (row w).kind w (decode ws) ∙ picked (is_start w) w _ _ (named ws)
 
 ascending_below : (n floor : ℕ) (fs : List ℕ) → n ≤ 64 → Ascending n floor fs → Each (λ f. f < 64) fs
 ascending_below n floor [] few h = tt
 ascending_below n floor (f ∷ fs) few h = (omega (arith, h.1), ascending_below n (f + 1) fs few h.2)
 
--- the facts true so far and those that the words from i on name are the ones that the words name, and can be facts
-pub record Started (ws : List ℕ) (i : ℕ) (s : ℕ → Bool) : Type 0 where
-  pub below : Each (λ (f : ℕ). f < 64) (starts (drop i ws))
-  pub named : (f : ℕ) → (s f || member f (starts (drop i ws))) ≡ member f (starts ws)
-
-pub started_none : (ws : List ℕ) (s : ℕ → Bool) (n floor : ℕ) → n ≤ 64 → Ascending n floor (starts ws) → ((k : ℕ) → s k ≡ false) → Started ws 0 s
-started_none ws s n floor few ascending none =
-    record {
-      below = ascending_below n floor (starts ws) few ascending;
-      named = λ f. ap (λ (b : Bool). b || member f (starts ws)) (none f);
-    }
+or_nothing : (x : Bool) → (x || false) ≡ x
+or_nothing true = refl
+or_nothing false = refl
 
 -- a fact that is made true is no longer to come
 moved : (b x m : Bool) → (cond b true x || m) ≡ (x || (b || m))
@@ -55,35 +47,29 @@ moved true true m = refl
 moved true false m = refl
 moved false x m = refl
 
-module _ (ws : List ℕ) (i : ℕ) (within : i < length ws) (s : ℕ → Bool) (so_far : Started ws i s) where
-  pub started_more : (row (get_or ws i 0)).kind ≡ Kind.Start → (after : ℕ → Bool) →
-      (argument (get_or ws i 0) < 64 → after ≡ put s (argument (get_or ws i 0)) true) → Started ws (i + 1) after
-  started_more h after made =
-      let a = argument (get_or ws i 0) in
-      let more = starts_more ws i within h in
-      let small = subst (Each (λ (f : ℕ). f < 64)) more so_far.below in
-      record {
-        below = small.1;
-        named = λ f.
-            ap (λ (g : ℕ → Bool). g f || member f (starts (drop (i + 1) ws))) (made small.0)
-            ∙ moved (eqb f a) (s f) (member f (starts (drop (i + 1) ws)))
-            ∙ ap (λ (fs : List ℕ). s f || member f fs) (sym more)
-            ∙ so_far.named f;
-      }
+module _ {A F : Type 0} (v : A → ℕ) (g : Mut F (State × (A × Unit {0})) State)
+    {f : F} (makes : (a : State) (x : A) (b : State) (q : F) → Called g f (a, (x, tt)) b q → (q ≡ f) × (argument (v x) < 64 → holds b ≡ put (holds a) (argument (v x)) true)) where
+  folds : (xs : List A) → Each (λ i. i < 64) (map argument (map v xs)) → (p q : F × State) → p.0 ≡ f
+      → FoldsTo {P = F × State} (λ a x b. Called g a.0 (a.1, (x, tt)) b.1 b.0) p xs q
+      → (i : ℕ) → holds q.1 i ≡ (holds p.1 i || member i (map argument (map v xs)))
+  folds [] few p q same c i = ap (λ (w : F × State). holds w.1 i) (sym c) ∙ sym (or_nothing (holds p.1 i))
+  folds (x ∷ xs) few p q same c i =
+      let m = makes p.1 x c.0.1 c.0.0 (subst (λ (w : F). Called g w (p.1, (x, tt)) c.0.1 c.0.0) same c.1) in
+      let others = member i (map argument (map v xs)) in
+      folds xs few.1 c.0 q m.0 c.2 i
+      ∙ ap (λ (h : ℕ → Bool). h i || others) (m.1 few.0)
+      ∙ moved (eqb i (argument (v x))) (holds p.1 i) others
 
-  pub started_other : ((row (get_or ws i 0)).kind ≡ Kind.Start → ⊥) → Started ws (i + 1) s
-  started_other h =
-      let same = starts_other ws i within h in
-      record {
-        below = subst (Each (λ (f : ℕ). f < 64)) same so_far.below;
-        named = λ f. ap (λ (fs : List ℕ). s f || member f fs) (sym same) ∙ so_far.named f;
-      }
-
-or_nothing : (x : Bool) → (x || false) ≡ x
-or_nothing true = refl
-or_nothing false = refl
-
-pub started_all : (ws : List ℕ) (i : ℕ) (s : ℕ → Bool) → Started ws i s → length ws ≤ i → s ≡ start_of (tree_of ws)
-started_all ws i s so_far past =
-    let none : starts (drop i ws) ≡ [] = ap starts (drop_all i ws past) ∙ starts_none in
-    fun_ext (λ f. sym (or_nothing (s f)) ∙ ap (λ (fs : List ℕ). s f || member f fs) (sym none) ∙ so_far.named f)
+  pub started : {S : Type 0} {steps : S → Option A → S → Type 0} {s : S} (ws : List ℕ) (n floor : ℕ) → n ≤ 64 → Ascending n floor (tree_of ws).starts
+      → (init r : State) → ((i : ℕ) → holds init i ≡ false)
+      → ((xs : List A) × (q : F) × Drains steps s xs × FoldsTo {P = F × State} (λ a x b. Called g a.0 (a.1, (x, tt)) b.1 b.0) (f, init) xs (q, r))
+      → YieldsList steps v s (filter is_start ws)
+      → holds r ≡ start_of (tree_of ws)
+  started ws n floor few ascending init r none ran yields =
+      let words = items_from_drains ran.0 (ran.2.1.0, ran.2.1.1, λ _. (ran.2.0, ran.2.1.2)) yields in
+      let facts : map argument (map v ran.0) ≡ (tree_of ws).starts = ap (map argument) words ∙ sym (named ws) in
+      let each = ascending_below n floor _ few ascending in
+      fun_ext (λ i.
+      folds ran.0 (subst (Each (λ f. f < 64)) (sym facts) each) (f, init) (ran.1, r) refl ran.3 i
+      ∙ ap (λ (b : Bool). b || member i (map argument (map v ran.0))) (none i)
+      ∙ ap (member i) facts)

@@ -23,14 +23,14 @@ pub enum ExecutionFault {
 pub fn start(sheet: &Sheet<'_>) -> State
     ensures { holds result ≡ start_of (tree sheet.now) }
 {
-    let words = sheet.words();
-    let mut state = State::none();
-    for word in words {
-        if sheet::kind_of(*word) == Kind::Start {
-            state = state.with(sheet::argument_of(*word));
-        }
-    }
-    state
+    sheet
+        .words()
+        .iter()
+        .filter(|word| sheet::kind_of(**word) == Kind::Start)
+        .fold(
+            State::none(),
+            |state, word| state.with(sheet::argument_of(*word)),
+        )
 }
 
 // The state after a step of the sheet.
