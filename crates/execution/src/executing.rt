@@ -27,10 +27,8 @@ pub fn start(sheet: &Sheet<'_>) -> State
         .words()
         .iter()
         .filter(|word| sheet::kind_of(**word) == Kind::Start)
-        .fold(
-            State::none(),
-            |state, word| state.with(sheet::argument_of(*word)),
-        )
+        .map(|word| sheet::argument_of(*word))
+        .fold(State::none(), State::with)
 }
 
 // The state after a step of the sheet.
