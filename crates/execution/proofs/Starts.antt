@@ -40,14 +40,11 @@ ascending_below n floor [] few h = tt
 ascending_below n floor (f ∷ fs) few h = (omega (arith, h.1), ascending_below n (f + 1) fs few h.2)
 
 or_nothing : (x : Bool) → (x || false) ≡ x
-or_nothing true = refl
-or_nothing false = refl
+or_nothing x = grind arith
 
 -- a fact that is made true is no longer to come
 moved : (b x m : Bool) → (cond b true x || m) ≡ (x || (b || m))
-moved true true m = refl
-moved true false m = refl
-moved false x m = refl
+moved b x m = grind arith
 
 module _ {F : Type 0} (g : Mut F (State × (ℕ × Unit {0})) State) {f : F}
     (makes : (a : State) (x : ℕ) (b : State) (q : F) → Called g f (a, (x, tt)) b q → (q ≡ f) × (x < 64 → holds b ≡ put (holds a) x true)) where
