@@ -1,5 +1,5 @@
 // The active effects of an effect, read from its words.
-ghost use Rattle.std.specs.Prelude.{◌≡◌, ℕ, ◌<◌, ◌≤◌, false, List, length, nat_eq, if◌then◌else◌};
+ghost use Rattle.std.specs.Prelude.{◌≡◌, ℕ, ◌<◌, false, List, nat_eq, if◌then◌else◌};
 ghost use Rattle.sheet.specs.Trees.{Effect, Effects};
 ghost use Rattle.execution.specs.State.{holds};
 ghost use Rattle.execution.specs.Active.{active, active_any, sets, clears, true_literal, false_literal};
@@ -35,9 +35,10 @@ impl Active {
         }
     }
 
-    // Adds that a fact is true or that it is false, where that is on.
+    // Adds the literal that a fact has this value, where it is on.
     fn with(self, fact: u32, value: bool, on: bool) -> Active
-        ensures { fact < 64 → Added self on (λ l. nat_eq l (if value then true_literal fact else false_literal fact)) result }
+        ensures { fact < 64
+            → Added self on (λ l. nat_eq l (if value then true_literal fact else false_literal fact)) result }
     {
         match (on, value) {
             (false, _) => self,
@@ -56,16 +57,19 @@ impl Active {
 // Every condition is read in the state before the step.
 pub(crate) fn active_effects<'a>(words: &'a [u32], before: State) -> Gathered<'a>
     requires { BeginsEffect words.now }
-    ensures { (e : Effect) (tail : List ℕ) → EffectFirst words.now e tail → (set_in result.active ≡ sets (holds before) e) × (cleared_in result.active ≡ clears (holds before) e) × (result.rest.now ≡ tail) }
+    ensures { (e : Effect) (tail : List ℕ) → EffectFirst words.now e tail
+        → (set_in result.active ≡ sets (holds before) e) × (cleared_in result.active ≡ clears (holds before) e)
+        × (result.rest.now ≡ tail) }
 {
     gather(words, before, true, Active::none())
 }
 
-// Adds an effect's active effects, none where a condition around it is false: its words are read all the same, to find their end.
+// Adds an effect's active effects, none where a condition around it is false; its words are read all the same.
 #[cycle(gather_members)]
 fn gather<'a>(words: &'a [u32], before: State, on: bool, so_far: Active) -> Gathered<'a>
     requires { BeginsEffect words.now }
-    ensures { (e : Effect) (tail : List ℕ) → EffectFirst words.now e tail → Added so_far on (active (holds before) e) result.active × (result.rest.now ≡ tail) }
+    ensures { (e : Effect) (tail : List ℕ) → EffectFirst words.now e tail
+        → Added so_far on (active (holds before) e) result.active × (result.rest.now ≡ tail) }
 {
     let [word, rest @ ..] = words else {
         unreachable!()
@@ -97,7 +101,8 @@ fn members<'a>(
     so_far: Active,
 ) -> Gathered<'a>
     requires { BeginsEffects words.now count }
-    ensures { (es : Effects) (tail : List ℕ) → EffectsFirst words.now count es tail → Added so_far on (active_any (holds before) es) result.active × (result.rest.now ≡ tail) }
+    ensures { (es : Effects) (tail : List ℕ) → EffectsFirst words.now count es tail
+        → Added so_far on (active_any (holds before) es) result.active × (result.rest.now ≡ tail) }
 {
     let mut gathered = Gathered {
         active: so_far,

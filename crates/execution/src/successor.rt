@@ -14,7 +14,8 @@ pub(crate) fn clashes(active: &Active) -> bool
 }
 
 pub(crate) fn successor(before: State, active: Active) -> State
-    ensures { (f : ℕ) → holds result f ≡ (if set_in active f then true else (if cleared_in active f then false else holds before f)) }
+    ensures { (f : ℕ) → holds result f
+        ≡ (if set_in active f then true else (if cleared_in active f then false else holds before f)) }
 {
     State {
         bits: before.bits.difference(active.cleared).union(active.set),

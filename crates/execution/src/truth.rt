@@ -1,5 +1,5 @@
 // The truth of a formula, read from its words.
-ghost use Rattle.std.specs.Prelude.{◌≡◌, ℕ, ◌<◌, ◌≤◌, List, length};
+ghost use Rattle.std.specs.Prelude.{◌≡◌, ℕ, List};
 ghost use Rattle.sheet.specs.Trees.{Formula, Formulas};
 ghost use Rattle.execution.specs.State.{holds};
 ghost use Rattle.execution.specs.Truth.{truth as true_in, all_true, any_true};
@@ -26,7 +26,8 @@ struct Tallied<'a> {
 #[cycle(members_truth)]
 pub(crate) fn truth<'a>(words: &'a [u32], state: State) -> Valued<'a>
     requires { BeginsFormula words.now }
-    ensures { (f : Formula) (tail : List ℕ) → FormulaFirst words.now f tail → (result.value ≡ true_in (holds state) f) × (result.rest.now ≡ tail) }
+    ensures { (f : Formula) (tail : List ℕ) → FormulaFirst words.now f tail
+        → (result.value ≡ true_in (holds state) f) × (result.rest.now ≡ tail) }
 {
     let [word, rest @ ..] = words else {
         unreachable!()
@@ -67,7 +68,9 @@ pub(crate) fn truth<'a>(words: &'a [u32], state: State) -> Valued<'a>
 #[cycle(members_truth)]
 fn members<'a>(words: &'a [u32], count: u32, state: State) -> Tallied<'a>
     requires { BeginsFormulas words.now count }
-    ensures { (fs : Formulas) (tail : List ℕ) → FormulasFirst words.now count fs tail → (result.all ≡ all_true (holds state) fs) × (result.any ≡ any_true (holds state) fs) × (result.rest.now ≡ tail) }
+    ensures { (fs : Formulas) (tail : List ℕ) → FormulasFirst words.now count fs tail
+        → (result.all ≡ all_true (holds state) fs) × (result.any ≡ any_true (holds state) fs)
+        × (result.rest.now ≡ tail) }
 {
     let mut tallied = Tallied {
         all: true,
