@@ -1,5 +1,5 @@
 -- What stands behind the first word of an effect, by the kind of that word, and of effects the first and the others.
-use Rattle.std.proofs.Common.{◌≡◌, ℕ, ◌+◌, ◌^◌, ◌<◌, ◌≤◌, List, ◌∷◌, ◌++◌, length, sym, refl, ap, ◌∙◌, subst, append_assoc, arith, length-append}
+use Rattle.std.proofs.Common.{◌≡◌, ℕ, ◌+◌, ◌^◌, ◌<◌, ◌≤◌, List, ◌∷◌, ◌++◌, length, sym, refl, ap, ◌∙◌, append_assoc, arith, length-append}
 use Rattle.std.proofs.lemmas.Slice.{first_rest}
 use Rattle.sheet.specs.declared.kinds.Kind.{Kind}
 use Rattle.sheet.specs.Trees.{Formula, Effect, Effects, set, clear, group, when, count_effects}
@@ -8,7 +8,7 @@ use Rattle.sheet.specs.Kinds.{row, argument}
 use Rattle.sheet.specs.Lawful.{LawfulEffect, LawfulEffects}
 use Rattle.execution.specs.Reading.{FormulaFirst, EffectFirst, EffectsFirst}
 use Rattle.execution.proofs.FormulaParts.{formula_first}
-use Rattle.execution.proofs.WordLaws.{kind_at, argument_at, first_word, other_words, first, behind}
+use Rattle.execution.proofs.WordLaws.{kind_at, argument_at, first_word, other_words, first, behind, behind_shorter}
 
 module _ {n : ℕ} (d : ℕ) (few : n ≤ 64) where
   pub effect_first : {e : Effect} {ws tail : List ℕ} → LawfulEffect n d e → ws ≡ encode_effect e ++ tail → EffectFirst ws e tail
@@ -67,11 +67,13 @@ module _ {ws tail : List ℕ} where
   pub effect_shorter : (e : Effect) → EffectFirst ws e tail → length tail < length ws
   effect_shorter e p = omega (arith, ap length p.encoded, length-append (encode_effect e) tail, encoded_begun e)
 
+  pub effect_behind_shorter : (e : Effect) → EffectFirst ws e tail → length (behind ws) < length ws
+  effect_behind_shorter e p = behind_shorter ws (omega (arith, effect_shorter e p))
+
   pub opened_effect : (k : Kind) → k ≡ (row (first ws)).kind → (e : Effect) → EffectFirst ws e tail → OpenedEffect k (first ws) (behind ws) e tail
   opened_effect k h e p =
       let parts = first_rest ws 0 (omega (arith, effect_shorter e p)) in
-      let split = subst (λ (vs : List ℕ). EffectFirst vs e tail) parts p in
-      subst (λ (j : Kind). OpenedEffect j (first ws) (behind ws) e tail) (sym h) (open_effect (first ws) (behind ws) tail e split)
+      rw h (open_effect (first ws) (behind ws) tail e (rw parts at p))
 
 -- effects of which there is none, or a first one and n others
 module _ (ws : List ℕ) (count : ℕ) (tail : List ℕ) where

@@ -1,5 +1,5 @@
 -- What stands behind the first word of a formula, by the kind of that word, and of formulas the first and the others.
-use Rattle.std.proofs.Common.{◌≡◌, ℕ, ◌+◌, ◌^◌, ◌<◌, ◌≤◌, List, ◌∷◌, ◌++◌, length, sym, refl, ap, ◌∙◌, subst, append_assoc, arith, length-append}
+use Rattle.std.proofs.Common.{◌≡◌, ℕ, ◌+◌, ◌^◌, ◌<◌, ◌≤◌, List, ◌∷◌, ◌++◌, length, sym, refl, ap, ◌∙◌, append_assoc, arith, length-append}
 use Rattle.std.proofs.lemmas.Slice.{first_rest}
 use Rattle.sheet.specs.declared.kinds.Kind.{Kind}
 use Rattle.sheet.specs.Trees.{Formula, Formulas, never, always, fact, not, all, any, count_formulas}
@@ -7,7 +7,7 @@ use Rattle.sheet.specs.Encoding.{encode_formula, encode_formulas}
 use Rattle.sheet.specs.Kinds.{row, argument}
 use Rattle.sheet.specs.Lawful.{LawfulFormula, LawfulFormulas}
 use Rattle.execution.specs.Reading.{FormulaFirst, FormulasFirst}
-use Rattle.execution.proofs.WordLaws.{kind_at, argument_at, first_word, other_words, first, behind}
+use Rattle.execution.proofs.WordLaws.{kind_at, argument_at, first_word, other_words, first, behind, behind_shorter}
 
 module _ {n : ℕ} (d : ℕ) (few : n ≤ 64) where
   pub formula_first : {f : Formula} {ws tail : List ℕ} → LawfulFormula n d f → ws ≡ encode_formula f ++ tail → FormulaFirst ws f tail
@@ -55,11 +55,13 @@ module _ {ws tail : List ℕ} where
   pub formula_shorter : (f : Formula) → FormulaFirst ws f tail → length tail < length ws
   formula_shorter f p = omega (arith, ap length p.encoded, length-append (encode_formula f) tail, encoded_begun f)
 
+  pub formula_behind_shorter : (f : Formula) → FormulaFirst ws f tail → length (behind ws) < length ws
+  formula_behind_shorter f p = behind_shorter ws (omega (arith, formula_shorter f p))
+
   pub opened_formula : (k : Kind) → k ≡ (row (first ws)).kind → (f : Formula) → FormulaFirst ws f tail → OpenedFormula k (first ws) (behind ws) f tail
   opened_formula k e f p =
       let parts = first_rest ws 0 (omega (arith, formula_shorter f p)) in
-      let split = subst (λ (vs : List ℕ). FormulaFirst vs f tail) parts p in
-      subst (λ (j : Kind). OpenedFormula j (first ws) (behind ws) f tail) (sym e) (open_formula (first ws) (behind ws) tail f split)
+      rw e (open_formula (first ws) (behind ws) tail f (rw parts at p))
 
 -- formulas of which there is none, or a first one and n others
 module _ (ws : List ℕ) (count : ℕ) (tail : List ℕ) where

@@ -1,4 +1,4 @@
-use Rattle.std.proofs.Common.{◌≡◌, ℕ, ◌+◌, ◌-◌, ◌<◌, Bool, ◌&&◌, List, length, sym, ap, ◌∙◌, subst, arith}
+use Rattle.std.proofs.Common.{◌≡◌, ◌+◌, ◌-◌, Bool, ◌&&◌, length, sym, ap, ◌∙◌, subst, arith}
 use native.Mathlib.Numerals.{unary_clauses}
 use Rattle.sheet.specs.declared.kinds.Kind.{Kind}
 use Rattle.sheet.specs.Trees.{set, clear}
@@ -6,27 +6,19 @@ use Rattle.execution.specs.State.{holds}
 use Rattle.execution.specs.Truth.{truth}
 use Rattle.execution.specs.Active.{active}
 use Rattle.execution.specs.Gathered.{Added}
-use Rattle.execution.specs.Reading.{BeginsEffect}
-use Rattle.execution.proofs.WordLaws.{behind, behind_shorter}
 use Rattle.execution.proofs.FormulaParts.{formula_shorter}
-use Rattle.execution.proofs.EffectParts.{effect_shorter, opened_effect, no_members, members, no_effect}
+use Rattle.execution.proofs.EffectParts.{effect_shorter, effect_behind_shorter, opened_effect, no_members, members, no_effect}
 use Rattle.execution.proofs.Additions.{none_added, then_added, guarded_added}
 use Rattle.execution.proofs.active.+gather_members.Goals as goal
 use Rattle.execution.proofs.active.+gather_members.Goals.{gather-then-on, gather-else-on}
 
-begun : (ws : List ℕ) → BeginsEffect ws → 0 < length ws
-begun ws b = omega (arith, effect_shorter b.0 b.2)
-
-falls : (ws : List ℕ) → BeginsEffect ws → length (behind ws) < length ws
-falls ws b = behind_shorter ws (begun ws b)
-
 pub gather-unreachable-requires : goal.gather-unreachable-requires
-gather-unreachable-requires t c = absurd (omega (arith, begun _ c.requires))
+gather-unreachable-requires t c = absurd (omega (arith, effect_shorter c.requires.0 c.requires.2))
 
 pub gather-members-requires : goal.gather-members-requires
 gather-members-requires t c =
     let o = opened_effect Kind.Group c.in-Group.ensures c.requires.0 c.requires.2 in
-    (omega (arith, c.decreases, falls _ c.requires), (o.0, c.requires.1, rw c.argument_of-in-Group.ensures o.2))
+    (omega (arith, c.decreases, effect_behind_shorter c.requires.0 c.requires.2), (o.0, c.requires.1, rw c.argument_of-in-Group.ensures o.2))
 
 pub gather-truth-condition-requires : goal.gather-truth-condition-requires
 gather-truth-condition-requires t c =
@@ -37,7 +29,7 @@ pub gather-gather-requires : goal.gather-gather-requires
 gather-gather-requires t c =
     let o = opened_effect Kind.When c.in-When.ensures c.requires.0 c.requires.2 in
     let behind_condition = (c.truth-condition.ensures o.condition _ o.condition_first).1 in (
-      omega (arith, c.decreases, falls _ c.requires, ap length behind_condition, formula_shorter o.condition o.condition_first),
+      omega (arith, c.decreases, effect_behind_shorter c.requires.0 c.requires.2, ap length behind_condition, formula_shorter o.condition o.condition_first),
       (o.effect, c.requires.1, o.effect_next _ behind_condition),
     )
 

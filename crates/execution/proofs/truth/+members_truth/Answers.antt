@@ -1,11 +1,9 @@
-use Rattle.std.proofs.Common.{ℕ, ◌+◌, ◌-◌, ◌<◌, not as negated, List, length, refl, sym, ap, ◌∙◌, arith}
+use Rattle.std.proofs.Common.{◌+◌, ◌-◌, not as negated, length, refl, sym, ap, ◌∙◌, arith}
 use native.Mathlib.Numerals.{unary_clauses}
 use Rattle.sheet.specs.declared.kinds.Kind.{Kind}
 use Rattle.execution.specs.State.{holds}
 use Rattle.execution.specs.Truth.{truth}
-use Rattle.execution.specs.Reading.{BeginsFormula}
-use Rattle.execution.proofs.WordLaws.{behind, behind_shorter}
-use Rattle.execution.proofs.FormulaParts.{formula_shorter, opened_formula, no_members, members, no_formula}
+use Rattle.execution.proofs.FormulaParts.{formula_shorter, formula_behind_shorter, opened_formula, no_members, members, no_formula}
 use Rattle.execution.proofs.truth.+members_truth.Goals as goal
 
 pub members-truth-next-requires : goal.members-truth-next-requires
@@ -37,29 +35,23 @@ members-returns t c fs tail p =
     let none = no_members _ _ tail (omega arith) left.formulas left.first in
     (grind (arith, rw none.0 at left.all_is), grind (arith, rw none.0 at left.any_is), none.1)
 
-begun : (ws : List ℕ) → BeginsFormula ws → 0 < length ws
-begun ws b = omega (arith, formula_shorter b.0 b.2)
-
-falls : (ws : List ℕ) → BeginsFormula ws → length (behind ws) < length ws
-falls ws b = behind_shorter ws (begun ws b)
-
 pub truth-unreachable-requires : goal.truth-unreachable-requires
-truth-unreachable-requires t c = absurd (omega (arith, begun _ c.requires))
+truth-unreachable-requires t c = absurd (omega (arith, formula_shorter c.requires.0 c.requires.2))
 
 pub truth-truth-inner-requires : goal.truth-truth-inner-requires
 truth-truth-inner-requires t c =
     let o = opened_formula Kind.Not c.in-Not.ensures c.requires.0 c.requires.2 in
-    (omega (arith, c.decreases, falls _ c.requires), (o.0, c.requires.1, o.2))
+    (omega (arith, c.decreases, formula_behind_shorter c.requires.0 c.requires.2), (o.0, c.requires.1, o.2))
 
 pub truth-members-inner-requires : goal.truth-members-inner-requires
 truth-members-inner-requires t c =
     let o = opened_formula Kind.All c.in-All.ensures c.requires.0 c.requires.2 in
-    (omega (arith, c.decreases, falls _ c.requires), (o.0, c.requires.1, rw c.argument_of-in-All.ensures o.2))
+    (omega (arith, c.decreases, formula_behind_shorter c.requires.0 c.requires.2), (o.0, c.requires.1, rw c.argument_of-in-All.ensures o.2))
 
 pub truth-members-inner-requires-in-Any : goal.truth-members-inner-requires-in-Any
 truth-members-inner-requires-in-Any t c =
     let o = opened_formula Kind.Any c.in-Any.ensures c.requires.0 c.requires.2 in
-    (omega (arith, c.decreases, falls _ c.requires), (o.0, c.requires.1, rw c.argument_of-in-Any.ensures o.2))
+    (omega (arith, c.decreases, formula_behind_shorter c.requires.0 c.requires.2), (o.0, c.requires.1, rw c.argument_of-in-Any.ensures o.2))
 
 pub truth-unreachable-requires-in_default-kind_of : goal.truth-unreachable-requires-in_default-kind_of
 truth-unreachable-requires-in_default-kind_of t c =
