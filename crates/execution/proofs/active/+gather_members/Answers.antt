@@ -1,11 +1,9 @@
-use Rattle.std.proofs.Common.{◌≡◌, ◌+◌, ◌-◌, Bool, ◌&&◌, length, sym, ap, ◌∙◌, subst, arith}
+use Rattle.std.proofs.Common.{◌≡◌, ◌+◌, ◌-◌, ◌&&◌, length, sym, ap, ◌∙◌, arith}
 use native.Mathlib.Numerals.{unary_clauses}
 use Rattle.sheet.specs.declared.kinds.Kind.{Kind}
 use Rattle.sheet.specs.Trees.{set, clear}
 use Rattle.execution.specs.State.{holds}
 use Rattle.execution.specs.Truth.{truth}
-use Rattle.execution.specs.Active.{active}
-use Rattle.execution.specs.Gathered.{Added}
 use Rattle.execution.proofs.FormulaParts.{formula_shorter}
 use Rattle.execution.proofs.EffectParts.{effect_shorter, effect_behind_shorter, opened_effect, no_members, members, no_effect}
 use Rattle.execution.proofs.Additions.{none_added, then_added, guarded_added}
@@ -68,9 +66,7 @@ gather-returns-after-on t c e tail p =
     let o = opened_effect Kind.When c.in-When.ensures e p in
     let condition = c.truth-condition.ensures o.condition _ o.condition_first in
     let inner = c.gather.ensures o.effect tail (o.effect_next _ condition.1) in
-    let on_both = on_is ∙ ap (λ (b : Bool). c.args.on && b) condition.0 in
-    let added = subst (λ (b : Bool). Added c.args.so_far b (active s o.effect) c.gather.result.active) on_both inner.0 in
-    (rw o.is (guarded_added c.args.on (truth s o.condition) added), inner.1)
+    (rw o.is (guarded_added c.args.on (truth s o.condition) (rw (on_is, condition.0) at inner.0)), inner.1)
 
 pub members-gather-gathered-requires : goal.members-gather-gathered-requires
 members-gather-gathered-requires t c =
