@@ -10,7 +10,8 @@ use Rattle.sheet.specs.Trees.{Effects}
 pub none_added : (a : Active) (on : Bool) → Added a on (λ l. false) a
 none_added a on = record { set_added = λ f. grind arith; cleared_added = λ f. grind arith }
 
-pub then_added : {a b c : Active} {on : Bool} {x y : ℕ → Bool} → Added a on x b → Added b on y c → Added a on (λ l. x l || y l) c
+pub then_added : {a b c : Active} {on : Bool} {x y : ℕ → Bool} → Added a on x b → Added b on y c
+    → Added a on (λ l. x l || y l) c
 then_added p q =
     record {
       set_added = λ f. grind (arith, p.set_added f, q.set_added f);
@@ -25,14 +26,16 @@ guarded_added on c p =
     }
 
 -- the words left begin with effects that come to es together with those added so far
-pub record Left (s : ℕ → Bool) (words : List ℕ) (es : Effects) (on : Bool) (before so_far : Active) (ws : List ℕ) (count : ℕ) (tail : List ℕ) : Type 0 where
+pub record Left (s : ℕ → Bool) (words : List ℕ) (es : Effects) (on : Bool) (before so_far : Active)
+    (ws : List ℕ) (count : ℕ) (tail : List ℕ) : Type 0 where
   pub effects : Effects
   pub first : EffectsFirst ws count effects tail
   pub shorter : length ws ≤ length words
   pub added : {after : Active} → Added so_far on (active_any s effects) after → Added before on (active_any s es) after
 
 -- added to nothing, the literals are the active effects
-module _ (a b : Active) (x : ℕ → Bool) (empty : (f : ℕ) → (set_in a f ≡ false) × (cleared_in a f ≡ false)) (p : Added a true x b) where
+module _ (a b : Active) (x : ℕ → Bool) (empty : (f : ℕ) → (set_in a f ≡ false) × (cleared_in a f ≡ false))
+    (p : Added a true x b) where
   pub sets_are : set_in b ≡ (λ f. x (true_literal f))
   sets_are = fun_ext (λ f. grind (arith, p.set_added f, (empty f).0))
 

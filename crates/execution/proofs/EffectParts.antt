@@ -14,8 +14,10 @@ module _ {n : ℕ} (d : ℕ) (few : n ≤ 64) where
   pub effect_first : {e : Effect} {ws tail : List ℕ} → LawfulEffect n d e → ws ≡ encode_effect e ++ tail → EffectFirst ws e tail
   effect_first lawful encoded = record { facts = n; depth = d; facts_within = few; lawful = lawful; encoded = encoded }
 
-  pub effects_first : {es : Effects} {ws tail : List ℕ} {count : ℕ} → LawfulEffects n d es → count_effects es ≡ count → ws ≡ encode_effects es ++ tail → EffectsFirst ws count es tail
-  effects_first lawful counted encoded = record { facts = n; depth = d; facts_within = few; lawful = lawful; counted = counted; encoded = encoded }
+  pub effects_first : {es : Effects} {ws tail : List ℕ} {count : ℕ} → LawfulEffects n d es → count_effects es ≡ count
+      → ws ≡ encode_effects es ++ tail → EffectsFirst ws count es tail
+  effects_first lawful counted encoded =
+      record { facts = n; depth = d; facts_within = few; lawful = lawful; counted = counted; encoded = encoded }
 
 -- a guarded effect: its condition, and the effect behind that
 pub record Guarded (ws : List ℕ) (e : Effect) (tail : List ℕ) : Type 0 where
@@ -47,15 +49,17 @@ module _ (w : ℕ) (ws tail : List ℕ) where
   open_effect (group es) p =
       let small : count_effects es < 2 ^ 28 = omega (arith, p.lawful.1) in
       let e = first_word p.encoded in
-      let members = effects_first (p.depth + 1) p.facts_within p.lawful.2 (sym (argument_at 8 (count_effects es) small e)) (other_words p.encoded) in
-      rw (kind_at 8 (count_effects es) small e) (es, refl, members)
+      let counted = sym (argument_at 8 (count_effects es) small e) in
+      rw (kind_at 8 (count_effects es) small e)
+      (es, refl, effects_first (p.depth + 1) p.facts_within p.lawful.2 counted (other_words p.encoded))
   open_effect (when f e) p =
       rw (kind_at 9 0 (omega arith) (first_word p.encoded))
       (record {
         condition = f;
         effect = e;
         is = refl;
-        condition_first = formula_first (p.depth + 1) p.facts_within p.lawful.1 (other_words p.encoded ∙ append_assoc (encode_formula f) (encode_effect e) tail);
+        condition_first = formula_first (p.depth + 1) p.facts_within p.lawful.1
+            (other_words p.encoded ∙ append_assoc (encode_formula f) (encode_effect e) tail);
         effect_next = λ rest h. effect_first (p.depth + 1) p.facts_within p.lawful.2 h;
       })
 
@@ -70,7 +74,8 @@ module _ {ws tail : List ℕ} where
   pub effect_behind_shorter : (e : Effect) → EffectFirst ws e tail → length (behind ws) < length ws
   effect_behind_shorter e p = behind_shorter ws (omega (arith, effect_shorter e p))
 
-  pub opened_effect : (k : Kind) → k ≡ (row (first ws)).kind → (e : Effect) → EffectFirst ws e tail → OpenedEffect k (first ws) (behind ws) e tail
+  pub opened_effect : (k : Kind) → k ≡ (row (first ws)).kind → (e : Effect) → EffectFirst ws e tail
+      → OpenedEffect k (first ws) (behind ws) e tail
   opened_effect k h e p =
       let parts = first_rest ws 0 (omega (arith, effect_shorter e p)) in
       rw h (open_effect (first ws) (behind ws) tail e (rw parts at p))
@@ -95,7 +100,8 @@ module _ (ws : List ℕ) (count : ℕ) (tail : List ℕ) where
         head = e;
         others = es;
         are = refl;
-        head_first = effect_first p.depth p.facts_within p.lawful.0 (p.encoded ∙ append_assoc (encode_effect e) (encode_effects es) tail);
+        head_first = effect_first p.depth p.facts_within p.lawful.0
+            (p.encoded ∙ append_assoc (encode_effect e) (encode_effects es) tail);
         others_next = λ rest h. effects_first p.depth p.facts_within p.lawful.1 (omega (arith, g, p.counted)) h;
       }
 

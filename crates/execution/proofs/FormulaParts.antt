@@ -13,8 +13,10 @@ module _ {n : ℕ} (d : ℕ) (few : n ≤ 64) where
   pub formula_first : {f : Formula} {ws tail : List ℕ} → LawfulFormula n d f → ws ≡ encode_formula f ++ tail → FormulaFirst ws f tail
   formula_first lawful encoded = record { facts = n; depth = d; facts_within = few; lawful = lawful; encoded = encoded }
 
-  pub formulas_first : {fs : Formulas} {ws tail : List ℕ} {count : ℕ} → LawfulFormulas n d fs → count_formulas fs ≡ count → ws ≡ encode_formulas fs ++ tail → FormulasFirst ws count fs tail
-  formulas_first lawful counted encoded = record { facts = n; depth = d; facts_within = few; lawful = lawful; counted = counted; encoded = encoded }
+  pub formulas_first : {fs : Formulas} {ws tail : List ℕ} {count : ℕ} → LawfulFormulas n d fs → count_formulas fs ≡ count
+      → ws ≡ encode_formulas fs ++ tail → FormulasFirst ws count fs tail
+  formulas_first lawful counted encoded =
+      record { facts = n; depth = d; facts_within = few; lawful = lawful; counted = counted; encoded = encoded }
 
 abbrev pub OpenedFormula : Kind → ℕ → List ℕ → Formula → List ℕ → Type 0
 OpenedFormula Kind.Never w ws f tail = (f ≡ never) × (ws ≡ tail)
@@ -39,13 +41,15 @@ module _ (w : ℕ) (ws tail : List ℕ) where
   open_formula (all fs) p =
       let small : count_formulas fs < 2 ^ 28 = omega (arith, p.lawful.1) in
       let e = first_word p.encoded in
-      let members = formulas_first (p.depth + 1) p.facts_within p.lawful.2 (sym (argument_at 4 (count_formulas fs) small e)) (other_words p.encoded) in
-      rw (kind_at 4 (count_formulas fs) small e) (fs, refl, members)
+      let counted = sym (argument_at 4 (count_formulas fs) small e) in
+      rw (kind_at 4 (count_formulas fs) small e)
+      (fs, refl, formulas_first (p.depth + 1) p.facts_within p.lawful.2 counted (other_words p.encoded))
   open_formula (any fs) p =
       let small : count_formulas fs < 2 ^ 28 = omega (arith, p.lawful.1) in
       let e = first_word p.encoded in
-      let members = formulas_first (p.depth + 1) p.facts_within p.lawful.2 (sym (argument_at 5 (count_formulas fs) small e)) (other_words p.encoded) in
-      rw (kind_at 5 (count_formulas fs) small e) (fs, refl, members)
+      let counted = sym (argument_at 5 (count_formulas fs) small e) in
+      rw (kind_at 5 (count_formulas fs) small e)
+      (fs, refl, formulas_first (p.depth + 1) p.facts_within p.lawful.2 counted (other_words p.encoded))
 
 encoded_begun : (f : Formula) → 0 < length (encode_formula f)
 encoded_begun never = omega arith
@@ -58,7 +62,8 @@ module _ {ws tail : List ℕ} where
   pub formula_behind_shorter : (f : Formula) → FormulaFirst ws f tail → length (behind ws) < length ws
   formula_behind_shorter f p = behind_shorter ws (omega (arith, formula_shorter f p))
 
-  pub opened_formula : (k : Kind) → k ≡ (row (first ws)).kind → (f : Formula) → FormulaFirst ws f tail → OpenedFormula k (first ws) (behind ws) f tail
+  pub opened_formula : (k : Kind) → k ≡ (row (first ws)).kind → (f : Formula) → FormulaFirst ws f tail
+      → OpenedFormula k (first ws) (behind ws) f tail
   opened_formula k e f p =
       let parts = first_rest ws 0 (omega (arith, formula_shorter f p)) in
       rw e (open_formula (first ws) (behind ws) tail f (rw parts at p))
@@ -83,12 +88,14 @@ module _ (ws : List ℕ) (count : ℕ) (tail : List ℕ) where
         head = f;
         others = fs;
         are = refl;
-        head_first = formula_first p.depth p.facts_within p.lawful.0 (p.encoded ∙ append_assoc (encode_formula f) (encode_formulas fs) tail);
+        head_first = formula_first p.depth p.facts_within p.lawful.0
+            (p.encoded ∙ append_assoc (encode_formula f) (encode_formulas fs) tail);
         others_next = λ rest e. formulas_first p.depth p.facts_within p.lawful.1 (omega (arith, h, p.counted)) e;
       }
 
 -- a word of another kind begins no formula
-pub no_formula : (k : Kind) → (k ≡ Kind.Never → ⊥) → (k ≡ Kind.Always → ⊥) → (k ≡ Kind.Fact → ⊥) → (k ≡ Kind.Not → ⊥) → (k ≡ Kind.All → ⊥) → (k ≡ Kind.Any → ⊥)
+pub no_formula : (k : Kind) → (k ≡ Kind.Never → ⊥) → (k ≡ Kind.Always → ⊥) → (k ≡ Kind.Fact → ⊥) → (k ≡ Kind.Not → ⊥)
+    → (k ≡ Kind.All → ⊥) → (k ≡ Kind.Any → ⊥)
     → (w : ℕ) (ws : List ℕ) (f : Formula) (tail : List ℕ) → OpenedFormula k w ws f tail → ⊥
 no_formula Kind.Never a b c d e g w ws f tail o = a refl
 no_formula Kind.Always a b c d e g w ws f tail o = b refl

@@ -20,6 +20,7 @@ module _ (s : ℕ → Bool) (e : Effect) (a : Active) (set : set_in a ≡ sets s
   pub clash_seen : Clash s e → (f : ℕ) × (set_in a f ≡ true) × (cleared_in a f ≡ true)
   clash_seen x = (x.0, set_at x.0 ∙ x.1, cleared_at x.0 ∙ x.2)
 
-  pub successor_told : (after : ℕ → Bool) → ((f : ℕ) → after f ≡ cond (set_in a f) true (cond (cleared_in a f) false (s f))) → after ≡ successor s e
+  pub successor_told : (after : ℕ → Bool)
+      → ((f : ℕ) → after f ≡ cond (set_in a f) true (cond (cleared_in a f) false (s f))) → after ≡ successor s e
   successor_told after h =
       fun_ext (λ f. h f ∙ ap₂ (λ (x y : Bool). cond x true (cond y false (s f))) (set_at f) (cleared_at f))

@@ -13,12 +13,15 @@ behind_first : {w : ℕ} {ws part : List ℕ} → part ≡ w ∷ ws → behind p
 behind_first {part = part} e = other_words (sym (first_rest part 0 (omega (arith, ap length e))) ∙ e)
 
 module _ (t : Tree) (k : ℕ) (part : List ℕ) where
-  pub condition_first : StepPart t k part → FormulaFirst (behind part) (step_at t k).condition (encode_effect (step_at t k).effect ++ behind_step t k)
+  pub condition_first : StepPart t k part
+      → FormulaFirst (behind part) (step_at t k).condition (encode_effect (step_at t k).effect ++ behind_step t k)
   condition_first found =
       formula_first 1 found.facts_within found.step_lawful.condition_lawful
-      (behind_first found.begins ∙ append_assoc (encode_formula (step_at t k).condition) (encode_effect (step_at t k).effect) (behind_step t k))
+      (behind_first found.begins
+      ∙ append_assoc (encode_formula (step_at t k).condition) (encode_effect (step_at t k).effect) (behind_step t k))
 
-  pub effect_next : StepPart t k part → (rest : List ℕ) → rest ≡ encode_effect (step_at t k).effect ++ behind_step t k → EffectFirst rest (step_at t k).effect (behind_step t k)
+  pub effect_next : StepPart t k part → (rest : List ℕ) → rest ≡ encode_effect (step_at t k).effect ++ behind_step t k
+      → EffectFirst rest (step_at t k).effect (behind_step t k)
   effect_next found rest h = effect_first 1 found.facts_within found.step_lawful.effect_lawful h
 
   pub goal_first : GoalPart t k part → FormulaFirst (behind part) (goal_at t k) (behind_goal t k)

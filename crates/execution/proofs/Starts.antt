@@ -22,11 +22,13 @@ use Rattle.execution.specs.State.{holds}
 abbrev pub is_start : ℕ → Bool
 is_start w = sameb the_type (row w).kind Kind.Start
 
-taken : (k : Kind) (w : ℕ) (r : Read) → (take_up k w r).tree.starts ≡ cond (sameb the_type k Kind.Start) (argument w ∷ r.tree.starts) r.tree.starts
+taken : (k : Kind) (w : ℕ) (r : Read)
+    → (take_up k w r).tree.starts ≡ cond (sameb the_type k Kind.Start) (argument w ∷ r.tree.starts) r.tree.starts
 taken Kind.Start w r = refl
 taken k w r = refl
 
-picked : (b : Bool) (w : ℕ) (fs ws : List ℕ) → fs ≡ map argument ws → cond b (argument w ∷ fs) fs ≡ map argument (cond b (w ∷ ws) ws)
+picked : (b : Bool) (w : ℕ) (fs ws : List ℕ) → fs ≡ map argument ws
+    → cond b (argument w ∷ fs) fs ≡ map argument (cond b (w ∷ ws) ws)
 picked true w fs ws e = ap (λ (gs : List ℕ). argument w ∷ gs) e
 picked false w fs ws e = e
 
@@ -47,7 +49,8 @@ moved : (b x m : Bool) → (cond b true x || m) ≡ (x || (b || m))
 moved b x m = grind arith
 
 module _ {F : Type 0} (g : Mut F (State × (ℕ × Unit {0})) State) {f : F}
-    (makes : (a : State) (x : ℕ) (b : State) (q : F) → Called g f (a, (x, tt)) b q → (q ≡ f) × (x < 64 → holds b ≡ put (holds a) x true)) where
+    (makes : (a : State) (x : ℕ) (b : State) (q : F) → Called g f (a, (x, tt)) b q
+    → (q ≡ f) × (x < 64 → holds b ≡ put (holds a) x true)) where
   folds : (xs : List ℕ) → Each (λ x. x < 64) xs → (p q : F × State) → p.0 ≡ f
       → FoldsTo {P = F × State} (λ a x b. Called g a.0 (a.1, (x, tt)) b.1 b.0) p xs q
       → (i : ℕ) → holds q.1 i ≡ (holds p.1 i || member i xs)
@@ -60,7 +63,8 @@ module _ {F : Type 0} (g : Mut F (State × (ℕ × Unit {0})) State) {f : F}
 
   pub started : {S : Type 0} {steps : S → Option ℕ → S → Type 0} {s : S} (ws : List ℕ) (t : Tree) → tree_of ws ≡ t → Lawful t
       → (init r : State) → ((i : ℕ) → holds init i ≡ false)
-      → ((xs : List ℕ) × (q : F) × Drains steps s xs × FoldsTo {P = F × State} (λ a x b. Called g a.0 (a.1, (x, tt)) b.1 b.0) (f, init) xs (q, r))
+      → ((xs : List ℕ) × (q : F) × Drains steps s xs
+      × FoldsTo {P = F × State} (λ a x b. Called g a.0 (a.1, (x, tt)) b.1 b.0) (f, init) xs (q, r))
       → YieldsList steps (λ x. x) s (map argument (filter is_start ws))
       → holds r ≡ start_of t
   started ws t is lawful init r none ran yields =

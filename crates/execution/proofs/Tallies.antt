@@ -5,7 +5,8 @@ use Rattle.execution.specs.Truth.{all_true, any_true}
 use Rattle.execution.specs.Reading.{FormulasFirst}
 
 -- the words left begin with formulas that come to fs together with those read so far
-pub record Left (s : ℕ → Bool) (words : List ℕ) (fs : Formulas) (all_so_far any_so_far : Bool) (ws : List ℕ) (count : ℕ) (tail : List ℕ) : Type 0 where
+pub record Left (s : ℕ → Bool) (words : List ℕ) (fs : Formulas) (all_so_far any_so_far : Bool)
+    (ws : List ℕ) (count : ℕ) (tail : List ℕ) : Type 0 where
   pub formulas : Formulas
   pub first : FormulasFirst ws count formulas tail
   pub shorter : length ws ≤ length words
