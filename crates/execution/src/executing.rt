@@ -35,9 +35,7 @@ pub fn start(sheet: &Sheet<'_>) -> State
 pub fn execute(sheet: &Sheet<'_>, step: u32, before: State) -> Result<State, ExecutionFault>
     ensures { Executed (tree sheet.now) (holds before) step result }
 {
-    let Some(part) = sheet.step(step) else {
-        return Err(ExecutionFault::NoSuchStep);
-    };
+    let part = sheet.step(step).ok_or(ExecutionFault::NoSuchStep)?;
     let condition = truth(&part[1..], before);
     if !condition.value {
         return Err(ExecutionFault::ConditionFalse);

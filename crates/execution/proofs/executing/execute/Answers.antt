@@ -8,23 +8,24 @@ use Rattle.execution.proofs.PartWords.{condition_first, effect_next}
 use Rattle.execution.proofs.executing.execute.Goals as goal
 
 pub truth-condition-requires : goal.truth-condition-requires
-truth-condition-requires c = let found = c.in-Some.ensures in (_, _, condition_first _ _ _ found)
+truth-condition-requires c =
+    let found = rw (c.ok_or.ensures.ok_part, c.in_ok-part.was) at c.step.ensures in (_, _, condition_first _ _ _ found)
 
 pub returns-then-not-condition : goal.returns-then-not-condition
 returns-then-not-condition c =
-    let found = c.in-Some.ensures in
+    let found = rw (c.ok_or.ensures.ok_part, c.in_ok-part.was) at c.step.ensures in
     let read = c.truth-condition.ensures _ _ (condition_first _ _ _ found) in
     (found.on_the_sheet, sym read.0 ∙ c.if-not-condition.true)
 
 pub active_effects-requires : goal.active_effects-requires
 active_effects-requires c =
-    let found = c.in-Some.ensures in
+    let found = rw (c.ok_or.ensures.ok_part, c.in_ok-part.was) at c.step.ensures in
     let read = c.truth-condition.ensures _ _ (condition_first _ _ _ found) in
     (_, _, effect_next _ _ _ found _ read.1)
 
 pub returns-then-clashes : goal.returns-then-clashes
 returns-then-clashes c =
-    let found = c.in-Some.ensures in
+    let found = rw (c.ok_or.ensures.ok_part, c.in_ok-part.was) at c.step.ensures in
     let effect = (step_at (tree c.args.sheet.now) c.args.step).effect in
     let read = c.truth-condition.ensures _ _ (condition_first _ _ _ found) in
     let effects = c.active_effects.ensures _ _ (effect_next _ _ _ found _ read.1) in (
@@ -35,7 +36,7 @@ returns-then-clashes c =
 
 pub returns : goal.returns
 returns c =
-    let found = c.in-Some.ensures in
+    let found = rw (c.ok_or.ensures.ok_part, c.in_ok-part.was) at c.step.ensures in
     let s = holds c.args.before in
     let effect = (step_at (tree c.args.sheet.now) c.args.step).effect in
     let read = c.truth-condition.ensures _ _ (condition_first _ _ _ found) in
