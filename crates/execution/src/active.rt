@@ -20,9 +20,9 @@ pub(crate) struct Active {
 
 // Active effects, and the words behind those that they were read from.
 #[derive(Clone, Copy)]
-pub(crate) struct Gathered<'a> {
-    pub active: Active,
-    pub rest: &'a [u32],
+struct Gathered<'a> {
+    active: Active,
+    rest: &'a [u32],
 }
 
 impl Active {
@@ -55,13 +55,12 @@ impl Active {
 }
 
 // Every condition is read in the state before the step.
-pub(crate) fn active_effects<'a>(words: &'a [u32], before: State) -> Gathered<'a>
+pub(crate) fn active_effects(words: &[u32], before: State) -> Active
     requires { BeginsEffect words.now }
     ensures { (e : Effect) (tail : List ℕ) → EffectFirst words.now e tail
-        → (set_in result.active ≡ sets (holds before) e) × (cleared_in result.active ≡ clears (holds before) e)
-        × (result.rest.now ≡ tail) }
+        → (set_in result ≡ sets (holds before) e) × (cleared_in result ≡ clears (holds before) e) }
 {
-    gather(words, before, true, Active::none())
+    gather(words, before, true, Active::none()).active
 }
 
 // Adds an effect's active effects, none where a condition around it is false; its words are read all the same.

@@ -40,7 +40,7 @@ pub fn execute(sheet: &Sheet<'_>, step: u32, before: State) -> Result<State, Exe
     if !condition.value {
         return Err(ExecutionFault::ConditionFalse);
     }
-    let active = active_effects(condition.rest, before).active;
+    let active = active_effects(condition.rest, before);
     if clashes(&active) {
         return Err(ExecutionFault::SetAndCleared);
     }

@@ -7,4 +7,4 @@ pub returns : goal.returns
 returns c e tail p =
     let literals = active (holds c.args.before) e in
     let added = c.gather.ensures e tail p in
-    (sets_are _ _ literals c.none.ensures added.0, clears_are _ _ literals c.none.ensures added.0, added.1)
+    (sets_are _ _ literals c.none.ensures added.0, clears_are _ _ literals c.none.ensures added.0)

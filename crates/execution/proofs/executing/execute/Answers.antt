@@ -17,8 +17,8 @@ returns-then-not-condition c =
     let read = c.truth-condition.ensures _ _ (condition_first _ _ _ found) in
     (found.on_the_sheet, sym read.0 ∙ c.if-not-condition.true)
 
-pub active_effects-requires : goal.active_effects-requires
-active_effects-requires c =
+pub active_effects-active-requires : goal.active_effects-active-requires
+active_effects-active-requires c =
     let found = rw (c.ok_or.ensures.ok_part, c.in_ok-part.was) at c.step.ensures in
     let read = c.truth-condition.ensures _ _ (condition_first _ _ _ found) in
     (_, _, effect_next _ _ _ found _ read.1)
@@ -28,7 +28,7 @@ returns-then-clashes c =
     let found = rw (c.ok_or.ensures.ok_part, c.in_ok-part.was) at c.step.ensures in
     let effect = (step_at (tree c.args.sheet.now) c.args.step).effect in
     let read = c.truth-condition.ensures _ _ (condition_first _ _ _ found) in
-    let effects = c.active_effects.ensures _ _ (effect_next _ _ _ found _ read.1) in (
+    let effects = c.active_effects-active.ensures _ _ (effect_next _ _ _ found _ read.1) in (
       found.on_the_sheet,
       sym read.0 ∙ c.if-not-condition.false,
       clash_told (holds c.args.before) effect _ effects.0 effects.1 (c.clashes.ensures.0 c.if-clashes.true),
@@ -40,7 +40,7 @@ returns c =
     let s = holds c.args.before in
     let effect = (step_at (tree c.args.sheet.now) c.args.step).effect in
     let read = c.truth-condition.ensures _ _ (condition_first _ _ _ found) in
-    let effects = c.active_effects.ensures _ _ (effect_next _ _ _ found _ read.1) in (
+    let effects = c.active_effects-active.ensures _ _ (effect_next _ _ _ found _ read.1) in (
       found.on_the_sheet,
       record {
         condition_true = sym read.0 ∙ c.if-not-condition.false;
