@@ -2,7 +2,6 @@
 ghost use Rattle.std.specs.Prelude.{◌≡◌};
 ghost use Rattle.weights.specs.Figures.{grade_figure};
 ghost use Rattle.weights.specs.Kinds.{grade};
-ghost use Rattle.weights.specs.HighestGrade.{higher};
 ghost use Rattle.std.proofs.Common.{rules};
 
 use crate::figure::Figure;
@@ -11,20 +10,12 @@ use crate::kind::WeightKind;
 // None is the number above the highest grade, so that every order of numbers is the order of weights.
 const NONE: u8 = 10;
 
-#[derive(Clone, Copy)]
+#[derive(Clone, Copy, Debug, PartialEq, Eq, PartialOrd, Ord)]
 pub struct HighestGrade {
     number: u8,
 }
 
 impl HighestGrade {
-    fn higher(self, other: HighestGrade) -> HighestGrade
-        ensures { result ≡ higher self other }
-    {
-        HighestGrade {
-            number: self.number.max(other.number),
-        }
-    }
-
     // How the weight is told.
     pub fn figure(self) -> Figure
         ensures { result ≡ grade_figure self }
@@ -55,15 +46,15 @@ impl WeightKind for Grade {
     }
 
     fn is_less(&self, first: HighestGrade, second: HighestGrade) -> bool {
-        first.number < second.number
+        first < second
     }
 
     fn both(&self, first: HighestGrade, second: HighestGrade) -> HighestGrade {
-        first.higher(second)
+        first.max(second)
     }
 
     fn then(&self, first: HighestGrade, second: HighestGrade) -> HighestGrade {
-        first.higher(second)
+        self.both(first, second)
     }
 
     fn step(&self, _minutes: u16, grade: u8) -> HighestGrade {

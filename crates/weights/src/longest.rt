@@ -24,11 +24,11 @@ impl WeightKind for Longest {
     }
 
     fn is_less(&self, first: Minutes, second: Minutes) -> bool {
-        first.is_less(second)
+        first < second
     }
 
     fn both(&self, first: Minutes, second: Minutes) -> Minutes {
-        first.larger(second)
+        first.max(second)
     }
 
     fn then(&self, first: Minutes, second: Minutes) -> Minutes {

@@ -1,6 +1,6 @@
 // Minutes up to a cap, and none: the weights of longest and of sum.
 ghost use Rattle.std.specs.Prelude.{◌≡◌};
-ghost use Rattle.weights.specs.Minutes.{of, no_minutes, less_minutes, larger, capped_sum};
+ghost use Rattle.weights.specs.Minutes.{of, no_minutes, capped_sum};
 ghost use Rattle.weights.specs.Figures.{minutes_figure};
 
 use crate::figure::Figure;
@@ -11,7 +11,7 @@ const TOP: u32 = 4_294_967_294;
 // None is the number above the cap, so that every order of numbers is the order of weights.
 const NONE: u32 = 4_294_967_295;
 
-#[derive(Clone, Copy)]
+#[derive(Clone, Copy, Debug, PartialEq, Eq, PartialOrd, Ord)]
 pub struct Minutes {
     number: u32,
 }
@@ -29,20 +29,6 @@ impl Minutes {
         ensures { result ≡ no_minutes }
     {
         Minutes { number: NONE }
-    }
-
-    pub(crate) fn is_less(self, other: Minutes) -> bool
-        ensures { result ≡ less_minutes self other }
-    {
-        self.number < other.number
-    }
-
-    pub(crate) fn larger(self, other: Minutes) -> Minutes
-        ensures { result ≡ larger self other }
-    {
-        Minutes {
-            number: self.number.max(other.number),
-        }
     }
 
     // The sum, at most the cap; with none it is none.

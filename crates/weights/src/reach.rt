@@ -2,28 +2,18 @@
 ghost use Rattle.std.specs.Prelude.{◌≡◌};
 ghost use Rattle.weights.specs.Figures.{reach_figure};
 ghost use Rattle.weights.specs.Kinds.{reach};
-ghost use Rattle.weights.specs.Reached.{joined};
 ghost use Rattle.std.proofs.Common.{rules};
 
 use crate::figure::Figure;
 use crate::kind::WeightKind;
 
-#[derive(Clone, Copy)]
+#[derive(Clone, Copy, Debug, PartialEq, Eq, PartialOrd, Ord)]
 pub enum Reached {
     Yes,
     None,
 }
 
 impl Reached {
-    fn joined(self, other: Reached) -> Reached
-        ensures { result ≡ joined self other }
-    {
-        match self {
-            Reached::Yes => other,
-            Reached::None => Reached::None,
-        }
-    }
-
     // How the weight is told.
     pub fn figure(self) -> Figure
         ensures { result ≡ reach_figure self }
@@ -54,15 +44,15 @@ impl WeightKind for Reach {
     }
 
     fn is_less(&self, first: Reached, second: Reached) -> bool {
-        matches!((first, second), (Reached::Yes, Reached::None))
+        first < second
     }
 
     fn both(&self, first: Reached, second: Reached) -> Reached {
-        first.joined(second)
+        first.max(second)
     }
 
     fn then(&self, first: Reached, second: Reached) -> Reached {
-        first.joined(second)
+        self.both(first, second)
     }
 
     fn step(&self, _minutes: u16, _grade: u8) -> Reached {

@@ -24,7 +24,7 @@ impl WeightKind for Sum {
     }
 
     fn is_less(&self, first: Minutes, second: Minutes) -> bool {
-        first.is_less(second)
+        first < second
     }
 
     fn both(&self, first: Minutes, second: Minutes) -> Minutes {
