@@ -1,5 +1,5 @@
 -- The four kinds: longest, sum, grade and reach.
-use Rattle.std.specs.Prelude.{Bool, true, false, nat_le, nat_lt}
+use Rattle.std.specs.Prelude.{Bool, true, false, nat_le, nat_lt, if◌then◌else◌}
 use Rattle.weights.specs.declared.grade.HighestGrade.{HighestGrade}
 use Rattle.weights.specs.declared.minutes.Minutes.{Minutes}
 use Rattle.weights.specs.declared.reach.Reached.{Reached}
@@ -10,25 +10,25 @@ use Rattle.weights.specs.Minutes.{above_top, no_minutes, less_minutes, larger, c
 use Rattle.weights.specs.Minutes.{of as of_minutes}
 use Rattle.weights.specs.Reached.{joined, less_reached}
 
--- a kind that counts minutes, by how it joins things that are both wanted
-abbrev counting : (Minutes → Minutes → Minutes) → Bool → Algebra Minutes
-counting both takes_larger =
+-- a kind that counts minutes: the larger, or else the sum, for things that are both wanted
+abbrev pub counting : Bool → Algebra Minutes
+counting takes_larger =
     record {
       is_weight = λ x. nat_le x.number above_top;
       zero = of_minutes 0;
       none = no_minutes;
       less = less_minutes;
-      both = both;
+      both = (if takes_larger then larger else capped_sum);
       then = capped_sum;
       step = λ m g. of_minutes m;
       takes_larger = takes_larger;
     }
 
 abbrev pub longest : Algebra Minutes
-longest = counting larger true
+longest = counting true
 
 abbrev pub sum : Algebra Minutes
-sum = counting capped_sum false
+sum = counting false
 
 abbrev pub grade : Algebra HighestGrade
 grade =
