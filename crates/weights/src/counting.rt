@@ -39,11 +39,11 @@ impl<const TAKES_LARGER: bool> WeightKind for Counting<TAKES_LARGER> {
     ghost lawful = { Prim.search rules };
 
     fn zero(&self) -> Minutes {
-        Minutes::of(0)
+        Minutes::from(0)
     }
 
     fn none(&self) -> Minutes {
-        Minutes::none()
+        Minutes::NONE
     }
 
     fn is_less(&self, first: Minutes, second: Minutes) -> bool {
@@ -63,7 +63,7 @@ impl<const TAKES_LARGER: bool> WeightKind for Counting<TAKES_LARGER> {
     }
 
     fn step(&self, minutes: u16, _grade: u8) -> Minutes {
-        Minutes::of(minutes)
+        Minutes::from(minutes)
     }
 
     fn takes_larger(&self) -> bool {

@@ -7,27 +7,29 @@ ghost use Rattle.std.proofs.Common.{rules};
 use crate::figure::Figure;
 use crate::kind::WeightKind;
 
-// None is the number above the highest grade, so that every order of numbers is the order of weights.
-const NONE: u8 = 10;
-
 #[derive(Clone, Copy, Debug, PartialEq, Eq, PartialOrd, Ord)]
 pub struct HighestGrade {
     number: u8,
 }
 
 impl HighestGrade {
-    // How the weight is told.
-    pub fn figure(self) -> Figure
-        ensures { result ≡ grade_figure self }
-    {
-        if self.number == NONE {
-            return Figure::None;
+    // A number above the highest grade keeps the order of numbers; an Option has None first.
+    const NONE: HighestGrade = HighestGrade { number: 10 };
+}
+
+impl From<HighestGrade> for Figure {
+    ghost from_gives = { λ weight figure. figure ≡ grade_figure weight };
+
+    fn from(weight: HighestGrade) -> Figure {
+        if weight == HighestGrade::NONE {
+            Figure::None
+        } else {
+            Figure::Number(u32::from(weight.number))
         }
-        Figure::Number(self.number as u32)
     }
 }
 
-#[derive(Clone, Copy)]
+#[derive(Clone, Copy, Debug, PartialEq, Eq)]
 pub struct Grade;
 
 impl WeightKind for Grade {
@@ -42,7 +44,7 @@ impl WeightKind for Grade {
     }
 
     fn none(&self) -> HighestGrade {
-        HighestGrade { number: NONE }
+        HighestGrade::NONE
     }
 
     fn is_less(&self, first: HighestGrade, second: HighestGrade) -> bool {

@@ -14,5 +14,5 @@ pub use figure::Figure;
 pub use grade::{Grade, HighestGrade};
 pub use kind::WeightKind;
 pub use minutes::Minutes;
-pub use named::NamedKind;
+pub use named::{NamedKind, UnknownKind};
 pub use reach::{Reach, Reached};

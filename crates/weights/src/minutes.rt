@@ -1,6 +1,6 @@
 // Minutes up to a cap, and none: the weights of longest and of sum.
 ghost use Rattle.std.specs.Prelude.{◌≡◌};
-ghost use Rattle.weights.specs.Minutes.{of, no_minutes, capped_sum};
+ghost use Rattle.weights.specs.Minutes.{of, capped_sum};
 ghost use Rattle.weights.specs.Figures.{minutes_figure};
 
 use crate::figure::Figure;
@@ -8,48 +8,48 @@ use crate::figure::Figure;
 // The most minutes that are told; more count as so many.
 const TOP: u32 = 4_294_967_294;
 
-// None is the number above the cap, so that every order of numbers is the order of weights.
-const NONE: u32 = 4_294_967_295;
-
 #[derive(Clone, Copy, Debug, PartialEq, Eq, PartialOrd, Ord)]
 pub struct Minutes {
     number: u32,
 }
 
 impl Minutes {
-    pub(crate) fn of(minutes: u16) -> Minutes
-        ensures { result ≡ of minutes }
-    {
-        Minutes {
-            number: minutes as u32,
-        }
-    }
-
-    pub(crate) fn none() -> Minutes
-        ensures { result ≡ no_minutes }
-    {
-        Minutes { number: NONE }
-    }
+    // A number above the cap keeps the order of numbers and one word a weight; an Option has None first, and takes two.
+    pub(crate) const NONE: Minutes = Minutes {
+        number: 4_294_967_295,
+    };
 
     // The sum, at most the cap; with none it is none.
     pub(crate) fn capped_sum(self, other: Minutes) -> Minutes
         ensures { result ≡ capped_sum self other }
     {
-        if self.number == NONE || other.number == NONE {
-            return Minutes::none();
+        if self == Minutes::NONE || other == Minutes::NONE {
+            return Minutes::NONE;
         }
         Minutes {
             number: self.number.saturating_add(other.number).min(TOP),
         }
     }
+}
 
-    // How the weight is told.
-    pub fn figure(self) -> Figure
-        ensures { result ≡ minutes_figure self }
-    {
-        if self.number == NONE {
-            return Figure::None;
+impl From<u16> for Minutes {
+    ghost from_gives = { λ minutes weight. weight ≡ of minutes };
+
+    fn from(minutes: u16) -> Minutes {
+        Minutes {
+            number: u32::from(minutes),
         }
-        Figure::Number(self.number)
+    }
+}
+
+impl From<Minutes> for Figure {
+    ghost from_gives = { λ weight figure. figure ≡ minutes_figure weight };
+
+    fn from(weight: Minutes) -> Figure {
+        if weight == Minutes::NONE {
+            Figure::None
+        } else {
+            Figure::Number(weight.number)
+        }
     }
 }

@@ -7,25 +7,25 @@ ghost use Rattle.std.proofs.Common.{rules};
 use crate::figure::Figure;
 use crate::kind::WeightKind;
 
+// In the order of weights: none is the greatest, where an Option has it first.
 #[derive(Clone, Copy, Debug, PartialEq, Eq, PartialOrd, Ord)]
 pub enum Reached {
     Yes,
     None,
 }
 
-impl Reached {
-    // How the weight is told.
-    pub fn figure(self) -> Figure
-        ensures { result ≡ reach_figure self }
-    {
-        match self {
+impl From<Reached> for Figure {
+    ghost from_gives = { λ weight figure. figure ≡ reach_figure weight };
+
+    fn from(weight: Reached) -> Figure {
+        match weight {
             Reached::Yes => Figure::Yes,
             Reached::None => Figure::None,
         }
     }
 }
 
-#[derive(Clone, Copy)]
+#[derive(Clone, Copy, Debug, PartialEq, Eq)]
 pub struct Reach;
 
 impl WeightKind for Reach {
