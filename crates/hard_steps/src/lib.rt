@@ -9,14 +9,17 @@ use weights::WeightKind;
 // The most steps that are told; more count as so many.
 const MOST: u8 = 254;
 
-const NONE: u8 = 255;
-
-#[derive(Clone, Copy)]
+#[derive(Clone, Copy, Debug, PartialEq, Eq, PartialOrd, Ord)]
 pub struct Count {
     number: u8,
 }
 
-#[derive(Clone, Copy)]
+impl Count {
+    // A number above the most keeps the order of numbers; an Option has None first.
+    const NONE: Count = Count { number: 255 };
+}
+
+#[derive(Clone, Copy, Debug, PartialEq, Eq)]
 pub struct HardSteps;
 
 impl WeightKind for HardSteps {
@@ -31,22 +34,20 @@ impl WeightKind for HardSteps {
     }
 
     fn none(&self) -> Count {
-        Count { number: NONE }
+        Count::NONE
     }
 
     fn is_less(&self, first: Count, second: Count) -> bool {
-        first.number < second.number
+        first < second
     }
 
     fn both(&self, first: Count, second: Count) -> Count {
-        Count {
-            number: first.number.max(second.number),
-        }
+        first.max(second)
     }
 
     fn then(&self, first: Count, second: Count) -> Count {
-        if first.number == NONE || second.number == NONE {
-            return Count { number: NONE };
+        if first == Count::NONE || second == Count::NONE {
+            return Count::NONE;
         }
         Count {
             number: first.number.saturating_add(second.number).min(MOST),
@@ -55,7 +56,7 @@ impl WeightKind for HardSteps {
 
     fn step(&self, _minutes: u16, grade: u8) -> Count {
         Count {
-            number: if grade >= 5 { 1 } else { 0 },
+            number: u8::from(grade >= 5),
         }
     }
 
