@@ -1,5 +1,5 @@
 -- The number and the name of each named kind.
-use Rattle.std.specs.Prelude.{◌≡◌, ◌≢◌, ℕ, List, ◌++◌, codes, decimal, Result, MatchResult}
+use Rattle.std.specs.Prelude.{◌≡◌, ◌≢◌, ℕ, List, ◌++◌, codes, decimal, Result, Ok, Err}
 use Rattle.weights.specs.declared.named.NamedKind.{NamedKind}
 use Rattle.weights.specs.declared.named.UnknownKind.{UnknownKind}
 
@@ -11,8 +11,8 @@ kind_number NamedKind.Reach = 3
 
 -- the result is the kind that has a number, or that number where no kind has it
 abbrev pub DecodesKind : ℕ → Result NamedKind UnknownKind → Type 0
-DecodesKind number r =
-    MatchResult r (λ kind. kind_number kind ≡ number) (λ unknown. (unknown.0 ≡ number) × ((kind : NamedKind) → kind_number kind ≢ number))
+DecodesKind number (Ok kind) = kind_number kind ≡ number
+DecodesKind number (Err unknown) = (unknown.0 ≡ number) × ((kind : NamedKind) → kind_number kind ≢ number)
 
 abbrev pub kind_name : NamedKind → List ℕ
 kind_name NamedKind.Longest = codes "longest"
