@@ -10,9 +10,6 @@ pub mod Rests
 pub mod Decodes
 pub mod Acceptance
 pub mod Readings
-pub mod StepSearch
-pub mod StepPlace
-pub mod StepParts
 pub mod PartSearch
 pub mod PartPlace
 pub mod PartParts

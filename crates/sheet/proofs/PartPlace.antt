@@ -1,13 +1,13 @@
--- The goals of a lawful sheet begin at its GOAL words, in their order.
+-- The steps and goals of a lawful sheet begin at its STEP and GOAL words, in their order.
 use Rattle.std.proofs.Common.{◌≡◌, ℕ, zero, suc, ◌+◌, ◌*◌, ◌^◌, ◌<◌, ◌≤◌, Bool, true, false, eqb, List, [], ◌∷◌, ◌++◌, length, get_or, drop, refl, ap, ◌∙◌, append_assoc, arith}
 use Rattle.std.proofs.lemmas.Bool.{ne_eqb}
 use Rattle.sheet.specs.declared.kinds.Kind.{Kind}
 use Rattle.sheet.specs.declared.kinds.Row.{Row}
 use Rattle.sheet.specs.Kinds.{code, row}
-use Rattle.sheet.specs.Trees.{Formula, Formulas, Effect, Effects, Step, Tree, never, always, fact, not, all, any, set, clear, group, when, count_formulas, count_effects, goal_at}
+use Rattle.sheet.specs.Trees.{Formula, Formulas, Effect, Effects, Step, Tree, never, always, fact, not, all, any, set, clear, group, when, count_formulas, count_effects, step_at, goal_at, idle}
 use Rattle.sheet.specs.Encoding.{word, encode_formula, encode_formulas, encode_effect, encode_effects, encode_step, encode_goal, encode_starts, encode_steps, encode_goals, encode}
 use Rattle.sheet.specs.Lawful.{LawfulFormula, LawfulFormulas, LawfulEffect, LawfulEffects, LawfulStep, Each, Ascending, Lawful}
-use Rattle.sheet.specs.Reading.{behind_goal}
+use Rattle.sheet.specs.Reading.{behind_step, behind_goal}
 use Rattle.sheet.specs.KindPlaces.{is_of, walk_on, from_kind}
 use Rattle.sheet.proofs.WordLaws.{row_word}
 use Rattle.sheet.proofs.PartsPay.{work_small}
@@ -149,6 +149,24 @@ module _ (t : Tree) (h : Lawful t) where
   to_steps sought least most k =
       skips n few sought least most k 12 n (encode_starts t.starts ++ (encode_steps t.steps ++ closing)) (omega arith) (λ e. omega arith)
       ∙ skips_starts n few sought least most k t.starts 0 (encode_steps t.steps ++ closing) h.starts_ascending
+
+  pub steps_placed : Placed Kind.Step (length t.steps) (λ k. encode_step (step_at t k) ++ behind_step t k) (encode t)
+  steps_placed =
+      let least : 10 ≤ code Kind.Step = omega arith in
+      let most : code Kind.Step ≤ 11 = omega arith in
+      let walk = walks_step n few Kind.Step least most true refl in
+      let end : (j : ℕ) → from_kind Kind.Step j closing ≡ [] = λ j.
+      skips_parts Kind.Step (LawfulFormula n 1) encode_goal encode_goals refl (λ g gs. refl) (word 14 0 ∷ [])
+      (walks_goal n few Kind.Step least most false refl) t.goals h.goals_lawful j
+      ∙ ends n few Kind.Step least most j in
+      record {
+        begun = λ k l.
+            to_steps Kind.Step least most k
+            ∙ finds_part Kind.Step (LawfulStep n) encode_step encode_steps refl (λ x xs. refl) closing walk t.steps h.steps_lawful k l idle;
+        past = λ k l.
+            to_steps Kind.Step least most k
+            ∙ passes_parts Kind.Step (LawfulStep n) encode_step encode_steps refl (λ x xs. refl) closing walk end t.steps h.steps_lawful k l;
+      }
 
   to_goals : (k : ℕ) → from_kind Kind.Goal k (encode t) ≡ from_kind Kind.Goal k closing
   to_goals k =

@@ -7,6 +7,5 @@ pub mod Survey
 pub mod Reads
 pub mod Decoding
 pub mod Acceptance
-pub mod Places
 pub mod KindPlaces
 pub mod Reading

@@ -1,7 +1,7 @@
-// The goals of a sheet and what its steps cost.
+// The steps and goals of a sheet, and what its steps cost.
 ghost use Rattle.std.specs.Prelude.{◌≤◌, length, MatchOption};
 ghost use Rattle.sheet.specs.KindPlaces.{Finds};
-ghost use Rattle.sheet.specs.Reading.{tree, GoalPart, WorkOf};
+ghost use Rattle.sheet.specs.Reading.{tree, GoalPart, StepPart, WorkOf};
 
 use crate::kinds::{Kind, grade_of, is_of, minutes_of};
 use crate::view::Sheet;
@@ -30,6 +30,13 @@ fn from_kind<'a>(words: &'a [u32], kind: Kind, number: u32) -> Option<&'a [u32]>
 }
 
 impl<'a> Sheet<'a> {
+    // The part of the words that begins at a step's STEP word.
+    pub fn step(&self, number: u32) -> Option<&'a [u32]>
+        ensures { MatchOption result (length (tree self.now).steps ≤ number) (λ part. StepPart (tree self.now) number part.now) }
+    {
+        from_kind(self.words, Kind::Step, number)
+    }
+
     // The part of the words that begins at a goal's GOAL word.
     pub fn goal(&self, number: u32) -> Option<&'a [u32]>
         ensures { MatchOption result (length (tree self.now).goals ≤ number) (λ part. GoalPart (tree self.now) number part.now) }

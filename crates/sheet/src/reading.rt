@@ -1,11 +1,10 @@
 // Reading a sheet, and what it tells.
-ghost use Rattle.std.specs.Prelude.{◌≡◌, ◌≤◌, length, MatchOption, MatchResult};
+ghost use Rattle.std.specs.Prelude.{◌≡◌, ◌≤◌, length, MatchResult};
 ghost use Rattle.sheet.specs.Acceptance.{Spells};
 ghost use Rattle.sheet.specs.Decoding.{bare};
-ghost use Rattle.sheet.specs.Reading.{tree, Accepted, Refused, StepPart};
+ghost use Rattle.sheet.specs.Reading.{tree, Accepted, Refused};
 
 use crate::faults::SheetFault;
-use crate::kinds::{Kind, kind_of};
 use crate::survey::survey_of;
 use crate::view::Sheet;
 
@@ -66,22 +65,5 @@ impl<'a> Sheet<'a> {
         ensures spelled { Spells result.now (tree self.now) }
     {
         self.words
-    }
-
-    // The part of the words that begins at a step's STEP word.
-    pub fn step(&self, number: u32) -> Option<&'a [u32]>
-        ensures { MatchOption result (length (tree self.now).steps ≤ number) (λ part. StepPart (tree self.now) number part.now) }
-    {
-        let words = self.words;
-        let mut left = number;
-        for (place, word) in words.iter().enumerate() {
-            if let Kind::Step = kind_of(*word) {
-                if left == 0 {
-                    return Some(&words[place..]);
-                }
-                left -= 1;
-            }
-        }
-        None
     }
 }
