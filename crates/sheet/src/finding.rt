@@ -17,16 +17,12 @@ pub struct Work {
 fn from_kind<'a>(words: &'a [u32], kind: Kind, number: u32) -> Option<&'a [u32]>
     ensures { Finds kind number words.now result }
 {
-    let mut left = number;
-    for (place, word) in words.iter().enumerate() {
-        if is_of(*word, kind) {
-            if left == 0 {
-                return Some(&words[place..]);
-            }
-            left -= 1;
-        }
-    }
-    None
+    let (place, _) = words
+        .iter()
+        .enumerate()
+        .filter(|(_, word)| is_of(**word, kind))
+        .nth(number as usize)?;
+    Some(&words[place..])
 }
 
 impl<'a> Sheet<'a> {

@@ -208,7 +208,7 @@ pub(crate) fn argument_fits(word: u32, facts: u32) -> bool
         Argument::Zero => value == 0,
         Argument::Fact => value < facts,
         Argument::Count => value <= 16,
-        Argument::Work => value % 0x1_0000 <= 1000 && value / 0x1_0000 <= 9,
+        Argument::Work => minutes_of(word) <= 1000 && grade_of(word) <= 9,
         Argument::Facts => value <= 64,
     }
 }

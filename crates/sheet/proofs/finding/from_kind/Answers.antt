@@ -1,30 +1,21 @@
-use Rattle.std.proofs.Common.{◌<◌, sym, ap, ◌∙◌, arith}
-use Rattle.std.proofs.lemmas.List.{drop_all, length-drop, take_rest}
-use Rattle.sheet.specs.KindPlaces.{from_kind}
-use Rattle.sheet.proofs.PartSearch.{from_other, from_sought, from_earlier, from_none}
+use Rattle.std.proofs.Common.{ℕ, ◌∙◌, arith, rules, tests}
+use Rattle.std.proofs.lemmas.Iterator.{YieldsList-from_slice}
+use Rattle.std.proofs.lemmas.Iterator.Consumers.{nth_from_yields_List, YieldsList-from_filter, YieldsList-from_enumerate}
+use Rattle.std.proofs.lemmas.List.{take_rest, length-drop}
+use Rattle.sheet.specs.KindPlaces.{is_of}
+use Rattle.sheet.proofs.PartSearch.{found_by}
 use Rattle.sheet.proofs.finding.from_kind.Goals as goal
-use Rattle.sheet.proofs.finding.from_kind.Goals.{then-is_of+else-left-eq0, else-is_of}
 
-pub returns-then-left-eq0 : goal.returns-then-left-eq0
-returns-then-left-eq0 c =
-    let found = from_sought _ _ _ c.loop-place-test.true (sym c.if-is_of.ensures) in
-    let inv = rw c.if-left-eq0.true at c.loop-place.invariant in
-    let all = take_rest c.args.words.now c.loop-place.place in
-    (all ∙ sym (inv ∙ found), rw all (omega (arith, c.loop-place-test.true, length-drop c.loop-place.place c.args.words.now)))
-
-pub loop-place-preserved : goal.loop-place-preserved
-loop-place-preserved c =
-    elim c.if-is_of.branch [
-      | then-is_of+else-left-eq0 w ↦
-          let some : 0 < c.loop-place.left = omega (arith, w.if-left-eq0.false) in
-          let on = from_earlier _ _ _ c.loop-place-test.true _ (sym w.if-is_of.ensures) some in
-          simp w.left-is (c.loop-place.invariant ∙ on)
-      | else-is_of w ↦
-          let on = from_other _ _ _ c.loop-place-test.true _ (sym w.if-is_of.ensures) in
-          simp w.left-is (c.loop-place.invariant ∙ on)
-    ]
+pub returns-in_err-place : goal.returns-in_err-place
+returns-in_err-place c =
+    let found = found_by _ c.args.kind c.args.number c.args.words.now _ (nth_from_yields_List _ _ c.args.number c.nth.ensures.ran
+    (YieldsList-from_filter _ (λ (p : ℕ × ℕ). is_of c.args.kind p.1) (YieldsList-from_enumerate (YieldsList-from_slice c.args.words.now cc) cc) c.filter.ensures.closure (λ x r q k. search (rules, tests)))) in
+    rw c.from_residual.ensures (rw c.in_err-place.was at found)
 
 pub returns : goal.returns
 returns c =
-    let past = drop_all _ _ c.loop-place-test.false in
-    c.loop-place.invariant ∙ ap (from_kind c.args.kind c.loop-place.left) past ∙ from_none c.args.kind c.loop-place.left
+    let found = found_by _ c.args.kind c.args.number c.args.words.now _ (nth_from_yields_List _ _ c.args.number c.nth.ensures.ran
+    (YieldsList-from_filter _ (λ (p : ℕ × ℕ). is_of c.args.kind p.1) (YieldsList-from_enumerate (YieldsList-from_slice c.args.words.now cc) cc) c.filter.ensures.closure (λ x r q k. search (rules, tests)))) in
+    let at = rw c.in_ok-place.was at found in
+    let rest = take_rest c.args.words.now c.in_ok-place.place in
+    (rest ∙ at.1, rw rest (omega (arith, at.0, length-drop c.in_ok-place.place c.args.words.now)))
