@@ -1,4 +1,5 @@
 pub mod Numbers
+pub mod Text
 pub mod Kinds
 pub mod Trees
 pub mod Encoding

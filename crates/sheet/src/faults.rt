@@ -1,8 +1,12 @@
 // Why, where and in which part a run of words is no sheet.
-ghost use Rattle.std.specs.Prelude.{◌≡◌};
+ghost use Rattle.std.specs.Prelude.{◌≡◌, Some};
 ghost use Rattle.sheet.specs.Numbers.{number};
+ghost use Rattle.sheet.specs.Text.{part_text, fault_text};
 
-#[derive(Clone, Copy)]
+use std::error::Error;
+use std::fmt;
+
+#[derive(Clone, Copy, Debug, PartialEq, Eq)]
 pub enum Cause {
     TooManyWords,
     WordsEnd,
@@ -14,25 +18,26 @@ pub enum Cause {
 }
 
 // The part of a sheet that a word belongs to: one step, one goal, or neither.
-#[derive(Clone, Copy)]
+#[derive(Clone, Copy, Debug, PartialEq, Eq)]
 pub enum Part {
     Head,
     Step(u32),
     Goal(u32),
 }
 
-#[derive(Clone, Copy)]
+#[derive(Clone, Copy, Debug, PartialEq, Eq)]
 pub struct SheetFault {
     pub cause: Cause,
     pub place: usize,
     pub part: Part,
 }
 
-impl Cause {
-    pub fn number(self) -> u8
-        ensures { result ≡ number self }
-    {
-        match self {
+// The number of a cause.
+impl From<Cause> for u8 {
+    ghost from_gives = { λ c n. n ≡ number c };
+
+    fn from(cause: Cause) -> u8 {
+        match cause {
             Cause::TooManyWords => 1,
             Cause::WordsEnd => 2,
             Cause::Kind => 3,
@@ -43,3 +48,26 @@ impl Cause {
         }
     }
 }
+
+impl fmt::Display for Part {
+    ghost output = { λ p. Some (part_text p) };
+
+    fn fmt<W: fmt::Write>(&self, f: &mut fmt::Formatter<W>) -> fmt::Result {
+        match self {
+            Part::Head => write!(f, "head"),
+            Part::Step(number) => write!(f, "step {number}"),
+            Part::Goal(number) => write!(f, "goal {number}"),
+        }
+    }
+}
+
+impl fmt::Display for SheetFault {
+    ghost output = { λ fault. Some (fault_text fault) };
+
+    fn fmt<W: fmt::Write>(&self, f: &mut fmt::Formatter<W>) -> fmt::Result {
+        let number = u8::from(self.cause);
+        write!(f, "refused {number} at {} in {}", self.place, self.part)
+    }
+}
+
+impl Error for SheetFault {}

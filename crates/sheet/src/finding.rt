@@ -7,7 +7,7 @@ use crate::kinds::{Kind, grade_of, is_of, minutes_of};
 use crate::view::Sheet;
 
 // What doing a step costs: minutes and a grade.
-#[derive(Clone, Copy)]
+#[derive(Clone, Copy, Debug, PartialEq, Eq)]
 pub struct Work {
     pub minutes: u16,
     pub grade: u8,

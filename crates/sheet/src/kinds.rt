@@ -3,7 +3,7 @@ ghost use Rattle.std.specs.Prelude.{◌≡◌, ◌%◌};
 ghost use Rattle.sheet.specs.Kinds.{row, argument, minutes, grade, fits};
 ghost use Rattle.sheet.specs.KindPlaces.{is_of};
 
-#[derive(Clone, Copy, PartialEq, Eq)]
+#[derive(Clone, Copy, Debug, PartialEq, Eq)]
 pub enum Kind {
     Never,
     Always,
