@@ -1,5 +1,6 @@
 -- Words are accepted exactly when they spell a lawful sheet.
-use Rattle.std.proofs.Common.{◌≡◌, ℕ, ◌≤◌, Bool, true, false, ltb, List, [], ◌∷◌, ◌++◌, length, Some, None, Ok, Option, sym, refl, ap, ◌∙◌, subst, ap₂, arith}
+use Rattle.std.proofs.Common.{◌≡◌, ℕ, ◌≤◌, Bool, true, false, ltb, List, [], ◌∷◌, ◌++◌, length, Ok, Err, Result, sym, refl, ap, ◌∙◌, subst, ap₂, arith}
+use Rattle.std.specs.Bool.{⊤}
 use Rattle.std.proofs.lemmas.Bool.{ltb-false}
 use Rattle.sheet.specs.declared.faults.Cause.{Cause}
 use Rattle.sheet.specs.declared.faults.Part.{Part}
@@ -11,34 +12,34 @@ use Rattle.sheet.specs.Kinds.{row, argument, fits}
 use Rattle.sheet.specs.Trees.{Tree}
 use Rattle.sheet.specs.Encoding.{encode}
 use Rattle.sheet.specs.Lawful.{Lawful}
-use Rattle.sheet.specs.Survey.{at, misfit_first, from_first, survey}
+use Rattle.sheet.specs.Survey.{at, admitted_first, from_first, survey}
 use Rattle.sheet.specs.Decoding.{tree_of}
 use Rattle.sheet.specs.Acceptance.{counts, Spells, AcceptedExactlyWhenLawful}
 use Rattle.sheet.proofs.WordLaws.{kind_at, word_made}
 use Rattle.sheet.proofs.Scans.{from_first_fits}
 use Rattle.sheet.proofs.PartsPay.{lawful_accepted}
-use Rattle.sheet.proofs.Rests.{splits, spelling, none_since, err_ok}
+use Rattle.sheet.proofs.Rests.{splits, spelling, ok_since, err_ok}
 use Rattle.sheet.proofs.Decodes.{decode_tree}
 
 -- accepted words spell some lawful tree, and are counted as it is
 abbrev Found : List ℕ → Counts → Type 0
 Found ws c = (t : Tree) × Spells ws t × (c ≡ counts t)
 
-no_kind : Some Cause.Kind ≡ None → ⊥
+no_kind : ◌≡◌ {A = Result ⊤ Cause} (Err Cause.Kind) (Ok tt) → ⊥
 no_kind h = let z : ◌≡◌ {A = ℕ} 0 1 = cc in omega arith
 
 -- a word that may come first stands at the first place
-first_at : (w : ℕ) (p : Place) → (row w).place ≡ p → misfit_first w ≡ None → (p ≡ Place.First) × (fits 0 w ≡ true)
+first_at : (w : ℕ) (p : Place) → (row w).place ≡ p → admitted_first w ≡ Ok tt → (p ≡ Place.First) × (fits 0 w ≡ true)
 first_at w Place.Formula e h = absurd (no_kind (rw e at h))
 first_at w Place.Effect e h = absurd (no_kind (rw e at h))
-first_at w Place.First e h = (refl, (none_since (fits 0 w) None Cause.Argument (rw e at h)).0)
+first_at w Place.First e h = (refl, (ok_since (fits 0 w) (Ok tt) tt Cause.Argument (rw e at h)).0)
 first_at w Place.Start e h = absurd (no_kind (rw e at h))
 first_at w Place.Step e h = absurd (no_kind (rw e at h))
 first_at w Place.Goal e h = absurd (no_kind (rw e at h))
 first_at w Place.End e h = absurd (no_kind (rw e at h))
 first_at w Place.Nowhere e h = absurd (no_kind (rw e at h))
 
-sheet_found : (w : ℕ) (ws : List ℕ) (c : Counts) → length (w ∷ ws) ≤ 4096 → misfit_first w ≡ None → from_first (length (w ∷ ws)) (w ∷ ws) ≡ Ok c
+sheet_found : (w : ℕ) (ws : List ℕ) (c : Counts) → length (w ∷ ws) ≤ 4096 → admitted_first w ≡ Ok tt → from_first (length (w ∷ ws)) (w ∷ ws) ≡ Ok c
     → Found (w ∷ ws) c
 sheet_found w ws c within fit h =
     let q = splits (length (w ∷ ws)) (argument w) ws (Section.Starts 0) [] c (sym (from_first_fits (length (w ∷ ws)) w ws fit) ∙ h) in
@@ -64,17 +65,17 @@ sheet_found w ws c within fit h =
       λ i. record { facts = r.facts_counted i; steps = steps_counted i; goals = goals_counted i },
     )
 
-first_misfit : (total w : ℕ) (ws : List ℕ) (c : Cause) → misfit_first w ≡ Some c → from_first total (w ∷ ws) ≡ at total c (w ∷ ws) Part.Head
-first_misfit total w ws c e = rw (e, from_first)
+first_refused : (total w : ℕ) (ws : List ℕ) (c : Cause) → admitted_first w ≡ Err c → from_first total (w ∷ ws) ≡ at total c (w ∷ ws) Part.Head
+first_refused total w ws c e = rw (e, from_first)
 
-begun : (w : ℕ) (ws : List ℕ) (c : Counts) (o : Option Cause) → misfit_first w ≡ o → length (w ∷ ws) ≤ 4096
+begun : (w : ℕ) (ws : List ℕ) (c : Counts) (o : Result ⊤ Cause) → admitted_first w ≡ o → length (w ∷ ws) ≤ 4096
     → from_first (length (w ∷ ws)) (w ∷ ws) ≡ Ok c → Found (w ∷ ws) c
-begun w ws c None fit within h = sheet_found w ws c within fit h
-begun w ws c (Some x) wrong within h = absurd (err_ok _ _ (sym (first_misfit (length (w ∷ ws)) w ws x wrong) ∙ h))
+begun w ws c (Ok first) fit within h = sheet_found w ws c within fit h
+begun w ws c (Err x) wrong within h = absurd (err_ok _ _ (sym (first_refused (length (w ∷ ws)) w ws x wrong) ∙ h))
 
 nonempty : (ws : List ℕ) (c : Counts) → length ws ≤ 4096 → from_first (length ws) ws ≡ Ok c → Found ws c
 nonempty [] c within h = absurd (err_ok _ _ h)
-nonempty (w ∷ ws) c within h = begun w ws c (misfit_first w) refl within h
+nonempty (w ∷ ws) c within h = begun w ws c (admitted_first w) refl within h
 
 short_enough : (ws : List ℕ) (c : Counts) (b : Bool) → ltb 4096 (length ws) ≡ b → survey ws ≡ Ok c → Found ws c
 short_enough ws c true e h = absurd (err_ok _ _ (rw e at h))

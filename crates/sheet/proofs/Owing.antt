@@ -6,11 +6,12 @@ use Rattle.sheet.specs.declared.kinds.Kind.{Kind}
 use Rattle.sheet.specs.declared.kinds.Place.{Place}
 use Rattle.sheet.specs.declared.kinds.Row.{Row}
 use Rattle.sheet.specs.declared.items.Sort.{Sort}
+use Rattle.sheet.specs.declared.items.Item.{Item}
 use Rattle.sheet.specs.Kinds.{code, row, argument, minutes, grade, fits}
 use Rattle.sheet.specs.Trees.{Formula, Formulas, Effect, Effects, Step, never, always, fact, not, all, any, set, clear, group, when, count_formulas, count_effects}
 use Rattle.sheet.specs.Encoding.{word, encode_formula, encode_formulas, encode_effect, encode_effects, encode_step, encode_goal}
 use Rattle.sheet.specs.Lawful.{LawfulFormula, LawfulFormulas, LawfulEffect, LawfulEffects}
-use Rattle.sheet.specs.Survey.{Item, item, owed, owes, begins}
+use Rattle.sheet.specs.Survey.{item, owed, owes, begins}
 use Rattle.sheet.proofs.WordLaws.{row_known, word_known, Meets, fits_meets}
 
 -- words that spell one lawful formula or effect at depth d

@@ -1,11 +1,12 @@
 -- Reading one part further, where the first word is w and the others are rest.
 use Rattle.std.proofs.Common.{◌≡◌, ℕ, ◌-◌, List, [], ◌∷◌, ◌++◌, Ok, Err, sym, ap, ◌∙◌}
 use Rattle.std.proofs.lemmas.List.{append-nil}
+use Rattle.sheet.specs.declared.items.Item.{Item}
 use Rattle.sheet.specs.declared.items.Stop.{Stop}
 use Rattle.sheet.specs.declared.sections.Section.{Section}
 use Rattle.sheet.specs.declared.sections.Entry.{Entry}
 use Rattle.sheet.specs.declared.sections.Refusal.{Refusal}
-use Rattle.sheet.specs.Survey.{Item, scan, owes, enter, inside, at, closed}
+use Rattle.sheet.specs.Survey.{scan, owes, enter, inside, at, closed}
 use Rattle.sheet.specs.Reads.{Paid, Unpaid}
 use Rattle.sheet.proofs.Scans.{scan_opens, scan_closes, scan_refused}
 

@@ -1,5 +1,5 @@
 -- The words of a lawful sheet take a scan from section to section, to the counts of the sheet.
-use Rattle.std.proofs.Common.{◌≡◌, ℕ, ◌+◌, ◌*◌, ◌/◌, ◌%◌, ◌^◌, ◌<◌, ◌≤◌, true, ltb, List, [], ◌∷◌, ◌++◌, length, None, Ok, refl, ap, ◌∙◌, append_assoc, arith}
+use Rattle.std.proofs.Common.{◌≡◌, ℕ, ◌+◌, ◌*◌, ◌/◌, ◌%◌, ◌^◌, ◌<◌, ◌≤◌, true, ltb, List, [], ◌∷◌, ◌++◌, length, Ok, refl, ap, ◌∙◌, append_assoc, arith}
 use Rattle.std.proofs.lemmas.Nat.{div-mul-add, mod-mul-add}
 use Rattle.std.proofs.lemmas.Bool.{le-leb, lt-ltb, le-ltb, cond-false}
 use Rattle.sheet.specs.declared.kinds.Row.{Row}
@@ -10,7 +10,7 @@ use Rattle.sheet.specs.Kinds.{row, fits}
 use Rattle.sheet.specs.Trees.{Formula, Step, Tree}
 use Rattle.sheet.specs.Encoding.{word, encode_formula, encode_effect, encode_step, encode_goal, encode_starts, encode_steps, encode_goals, encode}
 use Rattle.sheet.specs.Lawful.{LawfulFormula, LawfulStep, Each, Ascending, Lawful}
-use Rattle.sheet.specs.Survey.{item, enter, enter_at, next_step, next_goal, scan, survey, misfit_first}
+use Rattle.sheet.specs.Survey.{item, enter, enter_at, next_step, next_goal, scan, survey, admitted_first}
 use Rattle.sheet.specs.Acceptance.{counts}
 use Rattle.sheet.proofs.WordLaws.{row_word, argument_word, word_fits}
 use Rattle.sheet.proofs.Scans.{scan_opens, scan_closes, from_first_fits}
@@ -145,7 +145,7 @@ parts_pay total t h =
     ∙ end_pays n few total s₃
     ∙ rw (steps, goals)
 
-fits_first : (n : ℕ) → n ≤ 64 → misfit_first (word 12 n) ≡ None
+fits_first : (n : ℕ) → n ≤ 64 → admitted_first (word 12 n) ≡ Ok tt
 fits_first n few =
     let small : n < 2 ^ 28 = omega arith in
     let few' = le-leb n 64 few in

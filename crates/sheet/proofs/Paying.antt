@@ -1,12 +1,13 @@
 -- Reading items one word or one item further.
-use Rattle.std.proofs.Common.{◌≡◌, ℕ, suc, ◌+◌, ◌-◌, ◌<◌, ◌≤◌, List, [], ◌∷◌, ◌++◌, length, replicate, IfOk, Some, None, Ok, Err, Result, sym, ap, ◌∙◌, arith, Bor}
+use Rattle.std.proofs.Common.{◌≡◌, ℕ, suc, ◌+◌, ◌-◌, ◌<◌, ◌≤◌, List, [], ◌∷◌, ◌++◌, length, replicate, IfOk, Ok, Err, Result, sym, ap, ◌∙◌, arith, Bor}
 use Rattle.std.proofs.lemmas.List.{nil_from_length}
 use Rattle.sheet.specs.declared.faults.Cause.{Cause}
+use Rattle.sheet.specs.declared.items.Item.{Item}
 use Rattle.sheet.specs.declared.items.Stop.{Stop}
 use Rattle.sheet.specs.declared.sections.Section.{Section}
-use Rattle.sheet.specs.Survey.{Item, scan, misfit, owes, inside}
+use Rattle.sheet.specs.Survey.{scan, admitted, owes, inside}
 use Rattle.sheet.specs.Reads.{Reads, Paid, Unpaid}
-use Rattle.sheet.proofs.Scans.{scan_ends, scan_pays, scan_misfit}
+use Rattle.sheet.proofs.Scans.{scan_ends, scan_pays, scan_unpaid}
 
 pub unpaid_end : (n : ℕ) (i : Item) (ws : List ℕ) → length ws ≡ 0 → Unpaid n (i ∷ []) ws (record { cause = Cause.WordsEnd; left = 0 })
 unpaid_end n i ws h =
@@ -17,16 +18,18 @@ unpaid_end n i ws h =
 
 -- what reading tells where the first word is w and the others are rest
 module _ (n : ℕ) (i : Item) (ws : List ℕ) (w : ℕ) (rest : List ℕ) (split : ws ≡ w ∷ rest) where
-  pub unpaid_word : (c : Cause) → Some c ≡ misfit n i w → Unpaid n (i ∷ []) ws (record { cause = c; left = length ws })
-  unpaid_word c h =
-      record {
+  pub unpaid_word : (stop : Stop) → ((c : Cause) × (Err c ≡ admitted n i w) × (stop ≡ record { cause = c; left = length ws })) → Unpaid n (i ∷ []) ws stop
+  unpaid_word stop (c, h, e) =
+      rw e
+      (record {
         within = omega arith;
         unpaid = λ total s is.
-            let e : scan total n s (i ∷ is) ws ≡ scan total n s (i ∷ is) (w ∷ rest) = ap (scan total n s (i ∷ is)) split in
-            e ∙ scan_misfit total n s i is w rest c (sym h) ∙ ap (λ (k : List ℕ). Err (record { cause = c; place = total - length k; part = inside s })) (sym split);
-      }
+            ap (scan total n s (i ∷ is)) split
+            ∙ scan_unpaid total n s i is w rest c (sym h)
+            ∙ ap (λ (k : List ℕ). Err (record { cause = c; place = total - length k; part = inside s })) (sym split);
+      })
 
-  pub reads_word : None ≡ misfit n i w → (r : Result (Bor (List ℕ)) Stop) → Reads n (owes w (i.depth + 1)) rest r → Reads n (i ∷ []) ws r
+  pub reads_word : Ok tt ≡ admitted n i w → (r : Result (Bor (List ℕ)) Stop) → Reads n (owes w (i.depth + 1)) rest r → Reads n (i ∷ []) ws r
   reads_word h (Ok left) p =
       record {
         shorter = omega (arith, ap length split, p.shorter);

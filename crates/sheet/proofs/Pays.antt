@@ -1,11 +1,12 @@
 -- The words of a lawful sheet pay what they owe: each part's words leave a scan where it stood before them.
 use Rattle.std.proofs.Common.{◌≡◌, ℕ, ◌+◌, ◌≤◌, List, ◌∷◌, ◌++◌, replicate, refl, ◌∙◌, append_assoc, add-one, arith}
 use Rattle.sheet.specs.declared.items.Sort.{Sort}
+use Rattle.sheet.specs.declared.items.Item.{Item}
 use Rattle.sheet.specs.declared.sections.Section.{Section}
 use Rattle.sheet.specs.Trees.{Formula, Formulas, Effect, Effects, never, always, fact, not, all, any, set, clear, group, when, count_formulas, count_effects}
 use Rattle.sheet.specs.Encoding.{encode_formula, encode_formulas, encode_effect, encode_effects}
 use Rattle.sheet.specs.Lawful.{LawfulFormula, LawfulFormulas, LawfulEffect, LawfulEffects}
-use Rattle.sheet.specs.Survey.{Item, item, scan}
+use Rattle.sheet.specs.Survey.{item, scan}
 use Rattle.sheet.proofs.WordPays.{word_pays}
 
 module _ (total n : ℕ) (few : n ≤ 64) (s : Section) where

@@ -1,9 +1,11 @@
 -- An accepted run of words pays what is owed and then is the rest of a lawful sheet.
-use Rattle.std.proofs.Common.{◌≡◌, ℕ, ◌+◌, ◌<◌, ◌≤◌, max, Bool, true, false, cond, ◌&&◌, ltb, leb, List, [], ◌∷◌, ◌++◌, length, Some, None, Ok, Err, Option, Result, sym, refl, ap, ◌∙◌, ap₂, append_assoc, arith}
+use Rattle.std.proofs.Common.{◌≡◌, ℕ, ◌+◌, ◌<◌, ◌≤◌, max, Bool, true, false, cond, ◌&&◌, ltb, leb, List, [], ◌∷◌, ◌++◌, length, Ok, Err, Result, sym, refl, ap, ◌∙◌, ap₂, append_assoc, arith}
+use Rattle.std.specs.Bool.{⊤}
 use Rattle.std.proofs.lemmas.Bool.{and_parts, leb-true, ltb-true}
 use Rattle.sheet.specs.declared.faults.Cause.{Cause}
 use Rattle.sheet.specs.declared.kinds.Kind.{Kind}
 use Rattle.sheet.specs.declared.kinds.Place.{Place}
+use Rattle.sheet.specs.declared.items.Item.{Item}
 use Rattle.sheet.specs.declared.sections.Section.{Section}
 use Rattle.sheet.specs.declared.sections.Entry.{Entry}
 use Rattle.sheet.specs.declared.sections.Refusal.{Refusal}
@@ -12,9 +14,9 @@ use Rattle.sheet.specs.Kinds.{row, argument, fits}
 use Rattle.sheet.specs.Trees.{Formula, Step}
 use Rattle.sheet.specs.Encoding.{word, encode_step, encode_goal, encode_starts, encode_steps, encode_goals}
 use Rattle.sheet.specs.Lawful.{LawfulFormula, LawfulStep, Each, Ascending}
-use Rattle.sheet.specs.Survey.{Item, owes, begins, misfit, enter, enter_at, closed, next_step, next_goal, scan}
+use Rattle.sheet.specs.Survey.{owes, begins, admitted, enter, enter_at, closed, next_step, next_goal, scan}
 use Rattle.sheet.proofs.WordLaws.{kind_at, word_made}
-use Rattle.sheet.proofs.Scans.{scan_pays, scan_misfit, scan_opens, scan_closes, scan_refused}
+use Rattle.sheet.proofs.Scans.{scan_pays, scan_unpaid, scan_opens, scan_closes, scan_refused}
 use Rattle.sheet.proofs.PartsPay.{Open}
 use Rattle.sheet.proofs.Owing.{Pays, pays_apart, makes, begins_made}
 
@@ -47,7 +49,7 @@ pub record Rest (n : ℕ) (s : Section) (v : List ℕ) (c : Counts) : Type 0 whe
   pub steps_counted : c.steps ≡ next_step s + length steps
   pub goals_counted : c.goals ≡ next_goal s + length goals
 
-ok_since : {X E : Type 0} (b : Bool) (r : Result X E) (x : X) (e : E) → cond b r (Err e) ≡ Ok x → (b ≡ true) × (r ≡ Ok x)
+pub ok_since : {X E : Type 0} (b : Bool) (r : Result X E) (x : X) (e : E) → cond b r (Err e) ≡ Ok x → (b ≡ true) × (r ≡ Ok x)
 ok_since true r x e h = (refl, h)
 ok_since false r x e h = let z : ◌≡◌ {A = ℕ} 0 1 = cc in absurd (omega arith)
 
@@ -199,15 +201,11 @@ end_rest total n s w [] c e h =
     }
 end_rest total n s w (x ∷ ws) c e h = absurd (err_ok _ _ h)
 
-pub none_since : {X : Type 0} (b : Bool) (o : Option X) (x : X) → cond b o (Some x) ≡ None → (b ≡ true) × (o ≡ None)
-none_since true o x h = (refl, h)
-none_since false o x h = let z : ◌≡◌ {A = ℕ} 0 1 = cc in absurd (omega arith)
-
-fitting : (n : ℕ) (i : Item) (w : ℕ) → misfit n i w ≡ None → (begins i.sort (row w).place ≡ true) × (fits n w ≡ true) × (i.depth ≤ 16)
+fitting : (n : ℕ) (i : Item) (w : ℕ) → admitted n i w ≡ Ok tt → (begins i.sort (row w).place ≡ true) × (fits n w ≡ true) × (i.depth ≤ 16)
 fitting n i w h =
-    let p = none_since (begins i.sort (row w).place) _ _ h in
-    let q = none_since (fits n w) _ _ p.1 in
-    let r = none_since (leb i.depth 16) None Cause.Depth q.1 in
+    let p = ok_since (begins i.sort (row w).place) _ _ _ h in
+    let q = ok_since (fits n w) _ _ _ p.1 in
+    let r = ok_since (leb i.depth 16) (Ok tt) tt Cause.Depth q.1 in
     (p.0, q.0, leb-true _ _ r.0)
 
 -- the words pay the items and then are the rest of a sheet
@@ -250,15 +248,15 @@ module _ (total n w : ℕ) (ws : List ℕ) (c : Counts)
   entering s (Err r) wrong h = absurd (err_ok _ _ (sym (scan_refused total n s w ws r wrong) ∙ h))
 
   -- a word that pays the first item, with what pays its parts
-  paying : (s : Section) (i : Item) (is : List Item) (m : Option Cause) → misfit n i w ≡ m → scan total n s (i ∷ is) (w ∷ ws) ≡ Ok c
+  paying : (s : Section) (i : Item) (is : List Item) (m : Result ⊤ Cause) → admitted n i w ≡ m → scan total n s (i ∷ is) (w ∷ ws) ≡ Ok c
       → Splits n s (i ∷ is) (w ∷ ws) c
-  paying s i is None fit h =
+  paying s i is (Ok paid) fit h =
       let q = later s (owes w (i.depth + 1) ++ is) (sym (scan_pays total n s i is w ws fit) ∙ h) in
       let p = pays_apart n (owes w (i.depth + 1)) is q.0 q.3 in
       let f = fitting n i w fit in
       let m = begins_made i.sort (row w).place n i.depth w p.0 f.0 (makes n i.depth w p.0 f.1 f.2 p.3 (row w).place refl) in
       (w ∷ q.0, q.1, ap (λ x. w ∷ x) q.2, (w ∷ p.0, p.1, ap (λ x. w ∷ x) p.2, m, p.4), q.4)
-  paying s i is (Some x) wrong h = absurd (err_ok _ _ (sym (scan_misfit total n s i is w ws x wrong) ∙ h))
+  paying s i is (Err x) wrong h = absurd (err_ok _ _ (sym (scan_unpaid total n s i is w ws x wrong) ∙ h))
 
 -- the one induction of acceptance: over the words, whatever is owed
 pub splits : (total n : ℕ) (ws : List ℕ) (s : Section) (is : List Item) (c : Counts) → scan total n s is ws ≡ Ok c → Splits n s is ws c
@@ -267,4 +265,4 @@ splits total n [] s is c h = absurd (err_ok _ _ h)
 splits total n (w ∷ ws) s [] c h =
     ([], w ∷ ws, refl, refl, entering total n w ws c (λ s' is' h'. splits total n ws s' is' c h') s (enter n s w) refl h)
 splits total n (w ∷ ws) s (i ∷ is) c h =
-    paying total n w ws c (λ s' is' h'. splits total n ws s' is' c h') s i is (misfit n i w) refl h
+    paying total n w ws c (λ s' is' h'. splits total n ws s' is' c h') s i is (admitted n i w) refl h

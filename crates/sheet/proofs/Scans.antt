@@ -1,14 +1,16 @@
 -- One word of a scan.
-use Rattle.std.proofs.Common.{◌≡◌, ℕ, ◌+◌, ◌-◌, List, [], ◌∷◌, ◌++◌, Some, None, Ok, Err, Option, Result, refl, ap, arith}
+use Rattle.std.proofs.Common.{◌≡◌, ℕ, ◌+◌, ◌-◌, List, [], ◌∷◌, ◌++◌, Ok, Err, Result, refl, ap, arith}
+use Rattle.std.specs.Bool.{⊤}
 use Rattle.sheet.specs.declared.faults.Cause.{Cause}
 use Rattle.sheet.specs.declared.faults.SheetFault.{SheetFault}
+use Rattle.sheet.specs.declared.items.Item.{Item}
 use Rattle.sheet.specs.declared.sections.Section.{Section}
 use Rattle.sheet.specs.declared.sections.Entry.{Entry}
 use Rattle.sheet.specs.declared.sections.Refusal.{Refusal}
 use Rattle.sheet.specs.declared.survey.Counts.{Counts}
 use Rattle.sheet.specs.declared.faults.Part.{Part}
 use Rattle.sheet.specs.Kinds.{argument}
-use Rattle.sheet.specs.Survey.{Item, scan, misfit, owes, enter, inside, within, at, closed, misfit_first, from_first}
+use Rattle.sheet.specs.Survey.{scan, admitted, owes, enter, inside, within, at, closed, admitted_first, from_first}
 
 pub scan_ends : (total n : ℕ) (s : Section) (is : List Item) → scan total n s is [] ≡ at total Cause.WordsEnd [] (within s is)
 unfolding scan
@@ -23,16 +25,16 @@ scan_ends_between total n s =
 
 -- a word that pays the first item, and one that does not
 module _ (total n : ℕ) (s : Section) (i : Item) (is : List Item) (w : ℕ) (ws : List ℕ) where
-  by_misfit : Option Cause → Result Counts SheetFault
-  by_misfit m = elim m [ None ↦ scan total n s (owes w (i.depth + 1) ++ is) ws | Some c ↦ at total c (w ∷ ws) (inside s) ]
+  by_answer : Result ⊤ Cause → Result Counts SheetFault
+  by_answer m = elim m [ Ok paid ↦ scan total n s (owes w (i.depth + 1) ++ is) ws | Err c ↦ at total c (w ∷ ws) (inside s) ]
 
-  pub scan_pays : misfit n i w ≡ None → scan total n s (i ∷ is) (w ∷ ws) ≡ scan total n s (owes w (i.depth + 1) ++ is) ws
-  unfolding scan by_misfit
-  scan_pays h = ap by_misfit h
+  pub scan_pays : admitted n i w ≡ Ok tt → scan total n s (i ∷ is) (w ∷ ws) ≡ scan total n s (owes w (i.depth + 1) ++ is) ws
+  unfolding scan by_answer
+  scan_pays h = ap by_answer h
 
-  pub scan_misfit : (c : Cause) → misfit n i w ≡ Some c → scan total n s (i ∷ is) (w ∷ ws) ≡ at total c (w ∷ ws) (inside s)
-  unfolding scan by_misfit
-  scan_misfit c h = ap by_misfit h
+  pub scan_unpaid : (c : Cause) → admitted n i w ≡ Err c → scan total n s (i ∷ is) (w ∷ ws) ≡ at total c (w ∷ ws) (inside s)
+  unfolding scan by_answer
+  scan_unpaid c h = ap by_answer h
 
 -- a word between two parts
 module _ (total n : ℕ) (s : Section) (w : ℕ) (ws : List ℕ) where
@@ -57,9 +59,9 @@ module _ (total n : ℕ) (s : Section) (w : ℕ) (ws : List ℕ) where
 
 -- a first word that may come first
 module _ (total : ℕ) (w : ℕ) (ws : List ℕ) where
-  by_first : Option Cause → Result Counts SheetFault
-  by_first m = elim m [ None ↦ scan total (argument w) (Section.Starts 0) [] ws | Some c ↦ at total c (w ∷ ws) Part.Head ]
+  by_first : Result ⊤ Cause → Result Counts SheetFault
+  by_first m = elim m [ Ok first ↦ scan total (argument w) (Section.Starts 0) [] ws | Err c ↦ at total c (w ∷ ws) Part.Head ]
 
-  pub from_first_fits : misfit_first w ≡ None → from_first total (w ∷ ws) ≡ scan total (argument w) (Section.Starts 0) [] ws
+  pub from_first_fits : admitted_first w ≡ Ok tt → from_first total (w ∷ ws) ≡ scan total (argument w) (Section.Starts 0) [] ws
   unfolding by_first
   from_first_fits h = ap by_first h

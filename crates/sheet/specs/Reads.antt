@@ -1,9 +1,10 @@
 -- What reading the items that are owed tells, in any section and before any further items.
 use Rattle.std.specs.Prelude.{◌≡◌, ℕ, ◌-◌, ◌≤◌, List, ◌++◌, length, Ok, Err, Result}
 use Rattle.std.specs.Borrow.{Bor}
+use Rattle.sheet.specs.declared.items.Item.{Item}
 use Rattle.sheet.specs.declared.items.Stop.{Stop}
 use Rattle.sheet.specs.declared.sections.Section.{Section}
-use Rattle.sheet.specs.Survey.{Item, scan, inside}
+use Rattle.sheet.specs.Survey.{scan, inside}
 
 -- the items are paid and these words are left
 pub record Paid (n : ℕ) (js : List Item) (ws rest : List ℕ) : Type 0 where

@@ -1,6 +1,6 @@
 -- What a run of words still owes after each prefix, and so its first fault or the counts of the sheet.
 -- A word pays what is owed first or is the fault; its causes are tested in the order of their numbers.
-use Rattle.std.specs.Prelude.{ℕ, ◌+◌, ◌-◌, ◌<◌, ◌≤◌, Bool, true, false, cond, ◌&&◌, List, [], ◌∷◌, ◌++◌, length, replicate, Some, None, Ok, Err, Option, Result, nat_le, nat_lt}
+use Rattle.std.specs.Prelude.{ℕ, ◌+◌, ◌-◌, ◌<◌, ◌≤◌, Bool, cond, ◌&&◌, List, [], ◌∷◌, ◌++◌, length, replicate, ◌==◌, ⊤, Ok, Err, Result, nat_le, nat_lt}
 use Rattle.sheet.specs.declared.faults.Cause.{Cause}
 use Rattle.sheet.specs.declared.faults.Part.{Part}
 use Rattle.sheet.specs.declared.faults.SheetFault.{SheetFault}
@@ -8,16 +8,12 @@ use Rattle.sheet.specs.declared.kinds.Follows.{Follows}
 use Rattle.sheet.specs.declared.kinds.Follows.TheVariants.{Nothing, Formula, Formulas, Effects, Guarded}
 use Rattle.sheet.specs.declared.kinds.Place.{Place}
 use Rattle.sheet.specs.declared.items.Sort.{Sort}
+use Rattle.sheet.specs.declared.items.Item.{Item}
 use Rattle.sheet.specs.declared.sections.Section.{Section}
 use Rattle.sheet.specs.declared.sections.Entry.{Entry}
 use Rattle.sheet.specs.declared.sections.Refusal.{Refusal}
 use Rattle.sheet.specs.declared.survey.Counts.{Counts}
 use Rattle.sheet.specs.Kinds.{row, argument, fits}
-
--- a formula or an effect that is owed, at its depth
-pub record Item : Type 0 where
-  pub sort : Sort
-  pub depth : ℕ
 
 abbrev pub item : Sort → ℕ → Item
 item s d = record { sort = s; depth = d }
@@ -33,31 +29,32 @@ owed Guarded c d = item Sort.Formula d ∷ item Sort.Effect d ∷ []
 abbrev pub owes : ℕ → ℕ → List Item
 owes w d = owed (row w).follows (argument w) d
 
+-- a number for each place, to tell them apart
+abbrev place_code : Place → ℕ
+place_code Place.Formula = 0
+place_code Place.Effect = 1
+place_code Place.First = 2
+place_code Place.Start = 3
+place_code Place.Step = 4
+place_code Place.Goal = 5
+place_code Place.End = 6
+place_code Place.Nowhere = 7
+
+-- the place of the words that begin a formula or an effect
+abbrev pub place_of : Sort → Place
+place_of Sort.Formula = Place.Formula
+place_of Sort.Effect = Place.Effect
+
 -- a word at this place begins what is owed
 abbrev pub begins : Sort → Place → Bool
-begins Sort.Formula Place.Formula = true
-begins Sort.Formula Place.Effect = false
-begins Sort.Formula Place.First = false
-begins Sort.Formula Place.Start = false
-begins Sort.Formula Place.Step = false
-begins Sort.Formula Place.Goal = false
-begins Sort.Formula Place.End = false
-begins Sort.Formula Place.Nowhere = false
-begins Sort.Effect Place.Formula = false
-begins Sort.Effect Place.Effect = true
-begins Sort.Effect Place.First = false
-begins Sort.Effect Place.Start = false
-begins Sort.Effect Place.Step = false
-begins Sort.Effect Place.Goal = false
-begins Sort.Effect Place.End = false
-begins Sort.Effect Place.Nowhere = false
+begins s p = place_code p == place_code (place_of s)
 
--- why a word does not pay an item
-abbrev pub misfit : ℕ → Item → ℕ → Option Cause
-misfit n i w =
+-- whether a word pays an item, and why not
+abbrev pub admitted : ℕ → Item → ℕ → Result ⊤ Cause
+admitted n i w =
     cond (begins i.sort (row w).place)
-    (cond (fits n w) (cond (nat_le i.depth 16) None (Some Cause.Depth)) (Some Cause.Argument))
-    (Some Cause.Kind)
+    (cond (fits n w) (cond (nat_le i.depth 16) (Ok tt) (Err Cause.Depth)) (Err Cause.Argument))
+    (Err Cause.Kind)
 
 abbrev refuse : Cause → Part → Result Entry Refusal
 refuse c p = Err (record { cause = c; part = p })
@@ -141,31 +138,21 @@ scan total n s [] (w ∷ ws) =
       | Err r ↦ at total r.cause (w ∷ ws) r.part
     ]
 scan total n s (i ∷ is) (w ∷ ws) =
-    elim (misfit n i w) [
-      | None ↦ scan total n s (owes w (i.depth + 1) ++ is) ws
-      | Some c ↦ at total c (w ∷ ws) (inside s)
+    elim (admitted n i w) [
+      | Ok paid ↦ scan total n s (owes w (i.depth + 1) ++ is) ws
+      | Err c ↦ at total c (w ∷ ws) (inside s)
     ]
 
-abbrev first_place : Place → Bool
-first_place Place.Formula = false
-first_place Place.Effect = false
-first_place Place.First = true
-first_place Place.Start = false
-first_place Place.Step = false
-first_place Place.Goal = false
-first_place Place.End = false
-first_place Place.Nowhere = false
-
--- why a word may not come first
-abbrev pub misfit_first : ℕ → Option Cause
-misfit_first w = cond (first_place (row w).place) (cond (fits 0 w) None (Some Cause.Argument)) (Some Cause.Kind)
+-- whether a word may come first, and why not
+abbrev pub admitted_first : ℕ → Result ⊤ Cause
+admitted_first w = cond (place_code (row w).place == place_code Place.First) (cond (fits 0 w) (Ok tt) (Err Cause.Argument)) (Err Cause.Kind)
 
 abbrev pub from_first : ℕ → List ℕ → Result Counts SheetFault
 from_first total [] = at total Cause.WordsEnd [] Part.Head
 from_first total (w ∷ ws) =
-    elim (misfit_first w) [
-      | None ↦ scan total (argument w) (Section.Starts 0) [] ws
-      | Some c ↦ at total c (w ∷ ws) Part.Head
+    elim (admitted_first w) [
+      | Ok first ↦ scan total (argument w) (Section.Starts 0) [] ws
+      | Err c ↦ at total c (w ∷ ws) Part.Head
     ]
 
 -- the counts of the sheet that the words are, or their first fault

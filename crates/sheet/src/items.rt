@@ -1,7 +1,7 @@
 // Reading formulas and effects: the words behind them, or why and where they are none.
 ghost use Rattle.std.specs.Prelude.{◌≡◌, ◌+◌, ◌<◌, [], ◌∷◌, length, replicate, IfOk};
 ghost use Rattle.sheet.specs.Reads.{Reads};
-ghost use Rattle.sheet.specs.Survey.{item, misfit, owed, begins};
+ghost use Rattle.sheet.specs.Survey.{admitted, owed, place_of};
 
 use crate::faults::Cause;
 use crate::kinds::{Follows, Place, argument_fits, argument_of, row_of};
@@ -12,6 +12,13 @@ pub enum Sort {
     Effect,
 }
 
+// A formula or an effect that is owed, at its depth.
+#[derive(Clone, Copy)]
+pub struct Item {
+    pub sort: Sort,
+    pub depth: u32,
+}
+
 // Why reading stops, and how many words are left from the word at fault on.
 #[derive(Clone, Copy)]
 pub struct Stop {
@@ -20,42 +27,39 @@ pub struct Stop {
 }
 
 impl Sort {
-    fn begins_at(self, place: Place) -> bool
-        ensures { result ≡ begins self place }
+    // The place of the words that begin an item of this sort.
+    fn place(self) -> Place
+        ensures { result ≡ place_of self }
     {
-        match (self, place) {
-            (Sort::Formula, Place::Formula) => true,
-            (Sort::Effect, Place::Effect) => true,
-            _ => false,
+        match self {
+            Sort::Formula => Place::Formula,
+            Sort::Effect => Place::Effect,
         }
     }
 }
 
-// Why a word may not begin an item that is owed at this depth.
-fn misfit_of(word: u32, sort: Sort, depth: u32, facts: u32) -> Option<Cause>
-    ensures { result ≡ misfit facts (item sort depth) word }
-{
-    if !sort.begins_at(row_of(word).place) {
-        return Some(Cause::Kind);
+impl Item {
+    // Whether a word may begin this item, and why not.
+    fn admit(self, word: u32, facts: u32) -> Result<(), Cause>
+        ensures { result ≡ admitted facts self word }
+    {
+        if row_of(word).place != self.sort.place() {
+            return Err(Cause::Kind);
+        }
+        if !argument_fits(word, facts) {
+            return Err(Cause::Argument);
+        }
+        if self.depth > 16 {
+            return Err(Cause::Depth);
+        }
+        Ok(())
     }
-    if !argument_fits(word, facts) {
-        return Some(Cause::Argument);
-    }
-    if depth > 16 {
-        return Some(Cause::Depth);
-    }
-    None
 }
 
 // One formula or effect.
 #[cycle(follow_members_one)]
-pub(crate) fn one<'a>(
-    words: &'a [u32],
-    sort: Sort,
-    depth: u32,
-    facts: u32,
-) -> Result<&'a [u32], Stop>
-    ensures reads { Reads facts (item sort depth ∷ []) words.now result }
+fn one<'a>(words: &'a [u32], item: Item, facts: u32) -> Result<&'a [u32], Stop>
+    ensures reads { Reads facts (item ∷ []) words.now result }
     ensures shorter { IfOk result (λ rest. length rest.now < length words.now) }
 {
     let [word, rest @ ..] = words else {
@@ -64,19 +68,17 @@ pub(crate) fn one<'a>(
             left: 0,
         });
     };
-    match misfit_of(*word, sort, depth, facts) {
-        Some(cause) => Err(Stop {
-            cause,
-            left: words.len(),
-        }),
-        None => follow(
-            rest,
-            row_of(*word).follows,
-            argument_of(*word),
-            depth + 1,
-            facts,
-        ),
-    }
+    item.admit(*word, facts).map_err(|cause| Stop {
+        cause,
+        left: words.len(),
+    })?;
+    follow(
+        rest,
+        row_of(*word).follows,
+        argument_of(*word),
+        item.depth + 1,
+        facts,
+    )
 }
 
 // What follows a word whose argument is `count`.
@@ -90,32 +92,31 @@ pub(crate) fn follow<'a>(
 ) -> Result<&'a [u32], Stop>
     ensures reads { Reads facts (owed follows count depth) words.now result }
 {
+    let formula = Item {
+        sort: Sort::Formula,
+        depth,
+    };
+    let effect = Item {
+        sort: Sort::Effect,
+        depth,
+    };
     match follows {
         Follows::Nothing => Ok(words),
-        Follows::Formula => one(words, Sort::Formula, depth, facts),
-        Follows::Formulas => members(words, Sort::Formula, count, depth, facts),
-        Follows::Effects => members(words, Sort::Effect, count, depth, facts),
-        Follows::Guarded => {
-            let rest = one(words, Sort::Formula, depth, facts)?;
-            one(rest, Sort::Effect, depth, facts)
-        }
+        Follows::Formula => one(words, formula, facts),
+        Follows::Formulas => members(words, formula, count, facts),
+        Follows::Effects => members(words, effect, count, facts),
+        Follows::Guarded => one(one(words, formula, facts)?, effect, facts),
     }
 }
 
 // A run of members.
 #[cycle(follow_members_one)]
-fn members<'a>(
-    words: &'a [u32],
-    sort: Sort,
-    count: u32,
-    depth: u32,
-    facts: u32,
-) -> Result<&'a [u32], Stop>
-    ensures reads { Reads facts (replicate count (item sort depth)) words.now result }
+fn members<'a>(words: &'a [u32], item: Item, count: u32, facts: u32) -> Result<&'a [u32], Stop>
+    ensures reads { Reads facts (replicate count item) words.now result }
 {
     let mut rest = words;
     for _done in 0..count {
-        rest = one(rest, sort, depth, facts)?;
+        rest = one(rest, item, facts)?;
     }
     Ok(rest)
 }

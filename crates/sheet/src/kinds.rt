@@ -44,7 +44,7 @@ pub enum Follows {
 }
 
 // Where a word may come: as a formula, as an effect, first of all, or between two parts.
-#[derive(Clone, Copy)]
+#[derive(Clone, Copy, PartialEq, Eq)]
 pub enum Place {
     Formula,
     Effect,

@@ -1,7 +1,7 @@
 // The whole run of words: the counts of the sheet that they are, or their first fault.
 ghost use Rattle.std.specs.Prelude.{◌≡◌, ◌≤◌, [], length, Err};
 ghost use Rattle.sheet.specs.declared.sections.Section.TheVariants.{Starts};
-ghost use Rattle.sheet.specs.Survey.{scan, survey, closed, misfit_first, from_first, Few};
+ghost use Rattle.sheet.specs.Survey.{scan, survey, closed, admitted_first, from_first, Few};
 
 use crate::faults::{Cause, Part, SheetFault};
 use crate::items::follow;
@@ -18,20 +18,17 @@ pub struct Counts {
     pub goals: u32,
 }
 
-// Why a word may not be a sheet's first.
-fn misfit_at_first(word: u32) -> Option<Cause>
-    ensures { result ≡ misfit_first word }
+// Whether a word may be a sheet's first, and why not.
+fn admit_first(word: u32) -> Result<(), Cause>
+    ensures { result ≡ admitted_first word }
 {
-    match row_of(word).place {
-        Place::First => {
-            if argument_fits(word, 0) {
-                None
-            } else {
-                Some(Cause::Argument)
-            }
-        }
-        _ => Some(Cause::Kind),
+    if row_of(word).place != Place::First {
+        return Err(Cause::Kind);
     }
+    if !argument_fits(word, 0) {
+        return Err(Cause::Argument);
+    }
+    Ok(())
 }
 
 // What is behind END, in a sheet of `total` words.
@@ -108,14 +105,12 @@ fn from_first(words: &[u32]) -> Result<Counts, SheetFault>
             part: Part::Head,
         });
     };
-    match misfit_at_first(*word) {
-        Some(cause) => Err(SheetFault {
-            cause,
-            place: 0,
-            part: Part::Head,
-        }),
-        None => parts(rest, argument_of(*word), words.len()),
-    }
+    admit_first(*word).map_err(|cause| SheetFault {
+        cause,
+        place: 0,
+        part: Part::Head,
+    })?;
+    parts(rest, argument_of(*word), words.len())
 }
 
 pub(crate) fn survey_of(words: &[u32]) -> Result<Counts, SheetFault>

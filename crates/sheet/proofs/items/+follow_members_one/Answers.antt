@@ -1,7 +1,6 @@
 use Rattle.std.proofs.Common.{◌<◌, ◌≤◌, length, arith, rules}
 use Rattle.std.proofs.lemmas.Result.{err_from_is_err_and}
 use Rattle.std.proofs.lemmas.Slice.{first_rest}
-use Rattle.sheet.specs.Survey.{item}
 use Rattle.sheet.proofs.Paying.{unpaid_end, unpaid_word, reads_word, shorter_word, member_paid, member_unpaid}
 use Rattle.sheet.proofs.items.+follow_members_one.Goals as goal
 
@@ -21,14 +20,15 @@ one-returns-in_default t c =
     let none : length c.args.words.now ≤ 0 = search rules in
     record { reads = unpaid_end _ _ _ (omega arith); shorter = tt }
 
-pub one-returns-in-Some : goal.one-returns-in-Some
-one-returns-in-Some t c =
+pub one-returns-in_err-map_err : goal.one-returns-in_err-map_err
+one-returns-in_err-map_err t c =
+    let p = err_from_is_err_and c.from_residual.result c.from_residual.ensures.1 in
     let some : 0 < length c.args.words.now = search rules in
-    record { reads = unpaid_word _ _ _ _ _ (first_rest c.args.words.now 0 some) _ c.in-Some.ensures; shorter = tt }
+    rw (p.1, p.2) (record { reads = unpaid_word _ _ _ _ _ (first_rest c.args.words.now 0 some) _ (search rules); shorter = tt })
 
-pub one-returns-in-None : goal.one-returns-in-None
-one-returns-in-None t c =
+pub one-returns : goal.one-returns
+one-returns t c =
     let some : 0 < length c.args.words.now = search rules in
     let split = first_rest c.args.words.now 0 some in
     let p = rw (c.row_of.ensures, c.argument_of.ensures) at c.follow.ensures.reads in
-    record { reads = reads_word _ _ _ _ _ split c.in-None.ensures _ p; shorter = shorter_word _ (item c.args.sort c.args.depth) _ _ _ split _ _ p }
+    record { reads = reads_word _ _ _ _ _ split (search rules) _ p; shorter = shorter_word _ c.args.item _ _ _ split _ _ p }

@@ -1,6 +1,7 @@
 use Rattle.std.proofs.Common.{◌≡◌, ℕ, ◌+◌, ◌-◌, ◌*◌, ◌≤◌, List, ◌++◌, length, replicate}
+use Rattle.sheet.specs.declared.items.Item.{Item}
 use Rattle.sheet.specs.declared.sections.Section.{Section}
-use Rattle.sheet.specs.Survey.{Item, item, scan}
+use Rattle.sheet.specs.Survey.{scan}
 use Rattle.sheet.proofs.items.+follow_members_one.Given as goal
 
 abbrev pub decreases-follow : goal.decreases-follow
@@ -16,5 +17,5 @@ abbrev pub invariant-members-loop-done : goal.invariant-members-loop-done
 invariant-members-loop-done l =
     (length l.rest ≤ length l.initial.words)
     × ((total : ℕ) (s : Section) (is : List Item) →
-    scan total l.facts s (replicate l.count (item l.sort l.depth) ++ is) l.initial.words
-    ≡ scan total l.facts s (replicate (l.count - l._done) (item l.sort l.depth) ++ is) l.rest)
+    scan total l.facts s (replicate l.count l.item ++ is) l.initial.words
+    ≡ scan total l.facts s (replicate (l.count - l._done) l.item ++ is) l.rest)
