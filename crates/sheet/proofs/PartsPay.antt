@@ -1,11 +1,10 @@
 -- The words of a lawful sheet take a scan from section to section, to the counts of the sheet.
-use Rattle.std.proofs.Common.{◌≡◌, ℕ, ◌+◌, ◌*◌, ◌/◌, ◌%◌, ◌^◌, ◌<◌, ◌≤◌, true, ltb, List, [], ◌∷◌, ◌++◌, length, Ok, refl, ap, ◌∙◌, append_assoc, arith}
+use Rattle.std.proofs.Common.{◌≡◌, ℕ, ◌+◌, ◌*◌, ◌/◌, ◌%◌, ◌^◌, ◌<◌, ◌≤◌, true, ltb, List, [], ◌∷◌, ◌++◌, length, Some, Ok, refl, ap, ◌∙◌, append_assoc, arith}
 use Rattle.std.proofs.lemmas.Nat.{div-mul-add, mod-mul-add}
 use Rattle.std.proofs.lemmas.Bool.{le-leb, lt-ltb, le-ltb, cond-false}
 use Rattle.sheet.specs.declared.kinds.Row.{Row}
 use Rattle.sheet.specs.declared.items.Sort.{Sort}
 use Rattle.sheet.specs.declared.sections.Section.{Section}
-use Rattle.sheet.specs.declared.sections.Entry.{Entry}
 use Rattle.sheet.specs.Kinds.{row, fits}
 use Rattle.sheet.specs.Trees.{Formula, Step, Tree}
 use Rattle.sheet.specs.Encoding.{word, encode_formula, encode_effect, encode_step, encode_goal, encode_starts, encode_steps, encode_goals, encode}
@@ -67,7 +66,7 @@ enters_as : (n : ℕ) (s : Section) (k a : ℕ) → a < 2 ^ 28 → enter n s (wo
 enters_as n s k a small = ap (λ (r : Row). enter_at r.place n s (word k a)) (row_word k a small)
 
 module _ (n : ℕ) (few : n ≤ 64) where
-  enters_start : (floor f : ℕ) → floor ≤ f → f < n → enter n (Section.Starts floor) (word 13 f) ≡ Ok (Entry.Opens (Section.Starts (f + 1)))
+  enters_start : (floor f : ℕ) → floor ≤ f → f < n → enter n (Section.Starts floor) (word 13 f) ≡ Ok (Some (Section.Starts (f + 1)))
   enters_start floor f above below =
       let small : f < 2 ^ 28 = omega arith in
       let fit = word_fits n 13 f small below in
@@ -75,12 +74,12 @@ module _ (n : ℕ) (few : n ≤ 64) where
       enters_as n (Section.Starts floor) 13 f small ∙ rw (fit, argument_word 13 f small, above')
 
   enters_step : (s : Section) (a : ℕ) → Open s → next_step s < 64 → a < 2 ^ 28 → fits n (word 10 a) ≡ true
-      → enter n s (word 10 a) ≡ Ok (Entry.Opens (Section.Step (next_step s)))
+      → enter n s (word 10 a) ≡ Ok (Some (Section.Step (next_step s)))
   enters_step (Section.Starts floor) a o l small fit = enters_as n (Section.Starts floor) 10 a small ∙ rw fit
   enters_step (Section.Step k) a o l small fit = let l' = lt-ltb (k + 1) 64 l in enters_as n (Section.Step k) 10 a small ∙ rw (fit, l')
   enters_step (Section.Goal m k) a o l small fit = absurd o
 
-  enters_goal : (s : Section) → next_goal s < 8 → enter n s (word 11 0) ≡ Ok (Entry.Opens (Section.Goal (next_step s) (next_goal s)))
+  enters_goal : (s : Section) → next_goal s < 8 → enter n s (word 11 0) ≡ Ok (Some (Section.Goal (next_step s) (next_goal s)))
   enters_goal s l = let l' = lt-ltb (next_goal s) 8 l in rw l'
 
   module _ (total : ℕ) where

@@ -1,5 +1,5 @@
 -- An accepted run of words pays what is owed and then is the rest of a lawful sheet.
-use Rattle.std.proofs.Common.{◌≡◌, ℕ, ◌+◌, ◌<◌, ◌≤◌, max, Bool, true, false, cond, ◌&&◌, ltb, leb, List, [], ◌∷◌, ◌++◌, length, Ok, Err, Result, sym, refl, ap, ◌∙◌, ap₂, append_assoc, arith}
+use Rattle.std.proofs.Common.{◌≡◌, ℕ, ◌+◌, ◌<◌, ◌≤◌, max, Bool, true, false, cond, ◌&&◌, ltb, leb, List, [], ◌∷◌, ◌++◌, length, Some, None, Ok, Err, Option, Result, sym, refl, ap, ◌∙◌, ap₂, append_assoc, arith}
 use Rattle.std.specs.Bool.{⊤}
 use Rattle.std.proofs.lemmas.Bool.{and_parts, leb-true, ltb-true}
 use Rattle.sheet.specs.declared.faults.Cause.{Cause}
@@ -7,14 +7,13 @@ use Rattle.sheet.specs.declared.kinds.Kind.{Kind}
 use Rattle.sheet.specs.declared.kinds.Place.{Place}
 use Rattle.sheet.specs.declared.items.Item.{Item}
 use Rattle.sheet.specs.declared.sections.Section.{Section}
-use Rattle.sheet.specs.declared.sections.Entry.{Entry}
-use Rattle.sheet.specs.declared.sections.Refusal.{Refusal}
+use Rattle.sheet.specs.declared.faults.Refusal.{Refusal}
 use Rattle.sheet.specs.declared.survey.Counts.{Counts}
 use Rattle.sheet.specs.Kinds.{row, argument, fits}
 use Rattle.sheet.specs.Trees.{Formula, Step}
 use Rattle.sheet.specs.Encoding.{word, encode_step, encode_goal, encode_starts, encode_steps, encode_goals}
 use Rattle.sheet.specs.Lawful.{LawfulFormula, LawfulStep, Each, Ascending}
-use Rattle.sheet.specs.Survey.{owes, begins, admitted, enter, enter_at, closed, next_step, next_goal, scan}
+use Rattle.sheet.specs.Survey.{owes, begins, admitted, enter, enter_at, opened, admitted_part, closed, next_step, next_goal, scan}
 use Rattle.sheet.proofs.WordLaws.{kind_at, word_made}
 use Rattle.sheet.proofs.Scans.{scan_pays, scan_unpaid, scan_opens, scan_closes, scan_refused}
 use Rattle.sheet.proofs.PartsPay.{Open}
@@ -60,19 +59,30 @@ same_ok : {X E : Type 0} (x y : X) → ◌≡◌ {A = Result X E} (Ok x) (Ok y) 
 same_ok x y h = cc
 
 -- what it takes that a word at this place enters so
-abbrev Entered : Place → ℕ → Section → ℕ → Entry → Type 0
+abbrev Entered : Place → ℕ → Section → ℕ → Option Section → Type 0
 Entered Place.Formula n s w e = ⊥
 Entered Place.Effect n s w e = ⊥
 Entered Place.First n s w e = ⊥
-Entered Place.Start n (Section.Starts floor) w e = (fits n w ≡ true) × (floor ≤ argument w) × (Entry.Opens (Section.Starts (argument w + 1)) ≡ e)
+Entered Place.Start n (Section.Starts floor) w e = (fits n w ≡ true) × (floor ≤ argument w) × (Some (Section.Starts (argument w + 1)) ≡ e)
 Entered Place.Start n (Section.Step k) w e = ⊥
 Entered Place.Start n (Section.Goal m k) w e = ⊥
-Entered Place.Step n s w e = (fits n w ≡ true) × Open s × (next_step s < 64) × (Entry.Opens (Section.Step (next_step s)) ≡ e)
-Entered Place.Goal n s w e = (fits n w ≡ true) × (next_goal s < 8) × (Entry.Opens (Section.Goal (next_step s) (next_goal s)) ≡ e)
-Entered Place.End n s w e = (fits n w ≡ true) × (Entry.Closes ≡ e)
+Entered Place.Step n s w e = (fits n w ≡ true) × Open s × (next_step s < 64) × (Some (Section.Step (next_step s)) ≡ e)
+Entered Place.Goal n s w e = (fits n w ≡ true) × (next_goal s < 8) × (Some (Section.Goal (next_step s) (next_goal s)) ≡ e)
+Entered Place.End n s w e = (fits n w ≡ true) × (None ≡ e)
 Entered Place.Nowhere n s w e = ⊥
 
-module _ (n w : ℕ) (e : Entry) where
+module _ (n w : ℕ) (e : Option Section) where
+  answered : (r : Result ⊤ Cause) (s : Section) → opened r s ≡ Ok e → (r ≡ Ok tt) × (Some s ≡ e)
+  answered (Ok may) s h = (refl, same_ok _ _ h)
+  answered (Err c) s h = absurd (err_ok _ _ h)
+
+  opened_since : (k most : ℕ) (s : Section) → opened (admitted_part n w k most) s ≡ Ok e → (fits n w ≡ true) × (k < most) × (Some s ≡ e)
+  opened_since k most s h =
+      let o = answered (admitted_part n w k most) s h in
+      let p = ok_since (fits n w) _ _ _ o.0 in
+      let q = ok_since (ltb k most) (Ok tt) tt Cause.TooManyParts p.1 in
+      (p.0, ltb-true _ _ q.0, o.1)
+
   entered : (p : Place) (s : Section) → enter_at p n s w ≡ Ok e → Entered p n s w e
   entered Place.Formula s h = err_ok _ _ h
   entered Place.Effect s h = err_ok _ _ h
@@ -83,18 +93,10 @@ module _ (n w : ℕ) (e : Entry) where
       (q.0, leb-true _ _ q.1, same_ok _ _ p.1)
   entered Place.Start (Section.Step k) h = err_ok _ _ h
   entered Place.Start (Section.Goal m k) h = err_ok _ _ h
-  entered Place.Step (Section.Starts floor) h =
-      let p = ok_since (fits n w) _ e _ h in
-      (p.0, tt, omega arith, same_ok _ _ p.1)
-  entered Place.Step (Section.Step k) h =
-      let p = ok_since (fits n w) _ e _ h in
-      let q = ok_since (ltb (k + 1) 64) _ e _ p.1 in
-      (p.0, tt, ltb-true _ _ q.0, same_ok _ _ q.1)
+  entered Place.Step (Section.Starts floor) h = let p = opened_since 0 64 (Section.Step 0) h in (p.0, tt, p.1, p.2)
+  entered Place.Step (Section.Step k) h = let p = opened_since (k + 1) 64 (Section.Step (k + 1)) h in (p.0, tt, p.1, p.2)
   entered Place.Step (Section.Goal m k) h = absurd (err_ok _ _ h)
-  entered Place.Goal s h =
-      let p = ok_since (fits n w) _ e _ h in
-      let q = ok_since (ltb (next_goal s) 8) _ e _ p.1 in
-      (p.0, ltb-true _ _ q.0, same_ok _ _ q.1)
+  entered Place.Goal s h = opened_since (next_goal s) 8 (Section.Goal (next_step s) (next_goal s)) h
   entered Place.End s h =
       let p = ok_since (fits n w) _ e _ h in
       (p.0, same_ok _ _ p.1)
@@ -214,10 +216,10 @@ Splits n s is ws c = (u : List ℕ) × (v : List ℕ) × (ws ≡ u ++ v) × Pays
 
 module _ (total n w : ℕ) (ws : List ℕ) (c : Counts)
     (later : (s : Section) (is : List Item) → scan total n s is ws ≡ Ok c → Splits n s is ws c) where
-  onward : (s next : Section) → enter n s w ≡ Ok (Entry.Opens next) → scan total n s [] (w ∷ ws) ≡ Ok c → Splits n next (owes w 1) ws c
+  onward : (s next : Section) → enter n s w ≡ Ok (Some next) → scan total n s [] (w ∷ ws) ≡ Ok c → Splits n next (owes w 1) ws c
   onward s next e h = later next (owes w 1) (sym (scan_opens total n s w ws next e) ∙ h)
 
-  between : (p : Place) (s : Section) (e : Entry) → (row w).place ≡ p → enter n s w ≡ Ok e → Entered p n s w e
+  between : (p : Place) (s : Section) (e : Option Section) → (row w).place ≡ p → enter n s w ≡ Ok e → Entered p n s w e
       → scan total n s [] (w ∷ ws) ≡ Ok c → Rest n s (w ∷ ws) c
   between Place.Formula s e at ok i h = absurd i
   between Place.Effect s e at ok i h = absurd i
@@ -243,7 +245,7 @@ module _ (total n w : ℕ) (ws : List ℕ) (c : Counts)
       end_rest total n s w ws c (m.0 ∙ ap (λ x. word 14 x) m.1) (sym (scan_closes total n s w ws (ok ∙ ap (λ x. Ok x) (sym i.1))) ∙ h)
   between Place.Nowhere s e at ok i h = absurd i
 
-  entering : (s : Section) (r : Result Entry Refusal) → enter n s w ≡ r → scan total n s [] (w ∷ ws) ≡ Ok c → Rest n s (w ∷ ws) c
+  entering : (s : Section) (r : Result (Option Section) Refusal) → enter n s w ≡ r → scan total n s [] (w ∷ ws) ≡ Ok c → Rest n s (w ∷ ws) c
   entering s (Ok e) ok h = between (row w).place s e refl ok (entered n w e (row w).place s ok) h
   entering s (Err r) wrong h = absurd (err_ok _ _ (sym (scan_refused total n s w ws r wrong) ∙ h))
 

@@ -1,12 +1,11 @@
 -- One word of a scan.
-use Rattle.std.proofs.Common.{◌≡◌, ℕ, ◌+◌, ◌-◌, List, [], ◌∷◌, ◌++◌, Ok, Err, Result, refl, ap, arith}
+use Rattle.std.proofs.Common.{◌≡◌, ℕ, ◌+◌, ◌-◌, List, [], ◌∷◌, ◌++◌, Some, None, Ok, Err, Option, Result, refl, ap, arith}
 use Rattle.std.specs.Bool.{⊤}
 use Rattle.sheet.specs.declared.faults.Cause.{Cause}
 use Rattle.sheet.specs.declared.faults.SheetFault.{SheetFault}
 use Rattle.sheet.specs.declared.items.Item.{Item}
 use Rattle.sheet.specs.declared.sections.Section.{Section}
-use Rattle.sheet.specs.declared.sections.Entry.{Entry}
-use Rattle.sheet.specs.declared.sections.Refusal.{Refusal}
+use Rattle.sheet.specs.declared.faults.Refusal.{Refusal}
 use Rattle.sheet.specs.declared.survey.Counts.{Counts}
 use Rattle.sheet.specs.declared.faults.Part.{Part}
 use Rattle.sheet.specs.Kinds.{argument}
@@ -38,18 +37,18 @@ module _ (total n : ℕ) (s : Section) (i : Item) (is : List Item) (w : ℕ) (ws
 
 -- a word between two parts
 module _ (total n : ℕ) (s : Section) (w : ℕ) (ws : List ℕ) where
-  by_entry : Result Entry Refusal → Result Counts SheetFault
+  by_entry : Result (Option Section) Refusal → Result Counts SheetFault
   by_entry r =
       elim r [
-        | Ok e ↦ elim e [ Entry.Opens next ↦ scan total n next (owes w 1) ws | Entry.Closes ↦ closed total n s ws ]
+        | Ok e ↦ elim e [ Some next ↦ scan total n next (owes w 1) ws | None ↦ closed total n s ws ]
         | Err f ↦ at total f.cause (w ∷ ws) f.part
       ]
 
-  pub scan_opens : (next : Section) → enter n s w ≡ Ok (Entry.Opens next) → scan total n s [] (w ∷ ws) ≡ scan total n next (owes w 1) ws
+  pub scan_opens : (next : Section) → enter n s w ≡ Ok (Some next) → scan total n s [] (w ∷ ws) ≡ scan total n next (owes w 1) ws
   unfolding scan by_entry
   scan_opens next h = ap by_entry h
 
-  pub scan_closes : enter n s w ≡ Ok Entry.Closes → scan total n s [] (w ∷ ws) ≡ closed total n s ws
+  pub scan_closes : enter n s w ≡ Ok None → scan total n s [] (w ∷ ws) ≡ closed total n s ws
   unfolding scan by_entry
   scan_closes h = ap by_entry h
 

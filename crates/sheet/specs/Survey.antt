@@ -1,6 +1,6 @@
 -- What a run of words still owes after each prefix, and so its first fault or the counts of the sheet.
 -- A word pays what is owed first or is the fault; its causes are tested in the order of their numbers.
-use Rattle.std.specs.Prelude.{ℕ, ◌+◌, ◌-◌, ◌<◌, ◌≤◌, Bool, cond, ◌&&◌, List, [], ◌∷◌, ◌++◌, length, replicate, ◌==◌, ⊤, Ok, Err, Result, nat_le, nat_lt}
+use Rattle.std.specs.Prelude.{ℕ, ◌+◌, ◌-◌, Bool, cond, ◌&&◌, List, [], ◌∷◌, ◌++◌, length, replicate, ◌==◌, ⊤, Some, None, Ok, Err, Option, Result, nat_le, nat_lt}
 use Rattle.sheet.specs.declared.faults.Cause.{Cause}
 use Rattle.sheet.specs.declared.faults.Part.{Part}
 use Rattle.sheet.specs.declared.faults.SheetFault.{SheetFault}
@@ -10,8 +10,7 @@ use Rattle.sheet.specs.declared.kinds.Place.{Place}
 use Rattle.sheet.specs.declared.items.Sort.{Sort}
 use Rattle.sheet.specs.declared.items.Item.{Item}
 use Rattle.sheet.specs.declared.sections.Section.{Section}
-use Rattle.sheet.specs.declared.sections.Entry.{Entry}
-use Rattle.sheet.specs.declared.sections.Refusal.{Refusal}
+use Rattle.sheet.specs.declared.faults.Refusal.{Refusal}
 use Rattle.sheet.specs.declared.survey.Counts.{Counts}
 use Rattle.sheet.specs.Kinds.{row, argument, fits}
 
@@ -56,7 +55,7 @@ admitted n i w =
     (cond (fits n w) (cond (nat_le i.depth 16) (Ok tt) (Err Cause.Depth)) (Err Cause.Argument))
     (Err Cause.Kind)
 
-abbrev refuse : Cause → Part → Result Entry Refusal
+abbrev refuse : Cause → Part → Result (Option Section) Refusal
 refuse c p = Err (record { cause = c; part = p })
 
 -- the next STEP's and GOAL's number
@@ -70,33 +69,39 @@ next_goal (Section.Starts floor) = 0
 next_goal (Section.Step k) = 0
 next_goal (Section.Goal m k) = k + 1
 
-abbrev pub enter_start : ℕ → Section → ℕ → Result Entry Refusal
+-- the part whose words are being read
+abbrev pub inside : Section → Part
+inside (Section.Starts floor) = Part.Head
+inside (Section.Step k) = Part.Step k
+inside (Section.Goal m k) = Part.Goal k
+
+abbrev pub enter_start : ℕ → Section → ℕ → Result (Option Section) Refusal
 enter_start n (Section.Starts floor) w =
-    cond (fits n w && nat_le floor (argument w)) (Ok (Entry.Opens (Section.Starts (argument w + 1)))) (refuse Cause.Argument Part.Head)
+    cond (fits n w && nat_le floor (argument w)) (Ok (Some (Section.Starts (argument w + 1)))) (refuse Cause.Argument Part.Head)
 enter_start n (Section.Step k) w = refuse Cause.Kind Part.Head
 enter_start n (Section.Goal m k) w = refuse Cause.Kind Part.Head
 
-abbrev numbered_step : ℕ → ℕ → ℕ → Result Entry Refusal
-numbered_step n k w =
-    cond (fits n w)
-    (cond (nat_lt k 64) (Ok (Entry.Opens (Section.Step k))) (refuse Cause.TooManyParts (Part.Step k)))
-    (refuse Cause.Argument (Part.Step k))
+-- whether a word may open the part with number k, of at most so many, and why not
+abbrev pub admitted_part : ℕ → ℕ → ℕ → ℕ → Result ⊤ Cause
+admitted_part n w k most = cond (fits n w) (cond (nat_lt k most) (Ok tt) (Err Cause.TooManyParts)) (Err Cause.Argument)
 
-abbrev pub enter_step : ℕ → Section → ℕ → Result Entry Refusal
-enter_step n (Section.Starts floor) w = numbered_step n 0 w
-enter_step n (Section.Step k) w = numbered_step n (k + 1) w
+-- what a word that may open a part leads to
+abbrev pub opened : Result ⊤ Cause → Section → Result (Option Section) Refusal
+opened (Ok may) s = Ok (Some s)
+opened (Err c) s = refuse c (inside s)
+
+abbrev pub enter_step : ℕ → Section → ℕ → Result (Option Section) Refusal
+enter_step n (Section.Starts floor) w = opened (admitted_part n w 0 64) (Section.Step 0)
+enter_step n (Section.Step k) w = opened (admitted_part n w (k + 1) 64) (Section.Step (k + 1))
 enter_step n (Section.Goal m k) w = refuse Cause.Kind Part.Head
 
-abbrev pub enter_goal : ℕ → Section → ℕ → Result Entry Refusal
-enter_goal n s w =
-    cond (fits n w)
-    (cond (nat_lt (next_goal s) 8) (Ok (Entry.Opens (Section.Goal (next_step s) (next_goal s)))) (refuse Cause.TooManyParts (Part.Goal (next_goal s))))
-    (refuse Cause.Argument (Part.Goal (next_goal s)))
+abbrev pub enter_goal : ℕ → Section → ℕ → Result (Option Section) Refusal
+enter_goal n s w = opened (admitted_part n w (next_goal s) 8) (Section.Goal (next_step s) (next_goal s))
 
-abbrev pub enter_end : ℕ → ℕ → Result Entry Refusal
-enter_end n w = cond (fits n w) (Ok Entry.Closes) (refuse Cause.Argument Part.Head)
+abbrev pub enter_end : ℕ → ℕ → Result (Option Section) Refusal
+enter_end n w = cond (fits n w) (Ok None) (refuse Cause.Argument Part.Head)
 
-abbrev pub enter_at : Place → ℕ → Section → ℕ → Result Entry Refusal
+abbrev pub enter_at : Place → ℕ → Section → ℕ → Result (Option Section) Refusal
 enter_at Place.Formula n s w = refuse Cause.Kind Part.Head
 enter_at Place.Effect n s w = refuse Cause.Kind Part.Head
 enter_at Place.First n s w = refuse Cause.Kind Part.Head
@@ -106,15 +111,9 @@ enter_at Place.Goal n s w = enter_goal n s w
 enter_at Place.End n s w = enter_end n w
 enter_at Place.Nowhere n s w = refuse Cause.Kind Part.Head
 
--- what a word between two parts does: it opens the next part, closes the sheet, or is refused
-abbrev pub enter : ℕ → Section → ℕ → Result Entry Refusal
+-- what a word between two parts does: it opens the next part, ends the sheet (None), or is refused
+abbrev pub enter : ℕ → Section → ℕ → Result (Option Section) Refusal
 enter n s w = enter_at (row w).place n s w
-
--- the part whose words are being read
-abbrev pub inside : Section → Part
-inside (Section.Starts floor) = Part.Head
-inside (Section.Step k) = Part.Step k
-inside (Section.Goal m k) = Part.Goal k
 
 abbrev pub within : Section → List Item → Part
 within s [] = Part.Head
@@ -134,7 +133,7 @@ unfoldable pub scan : ℕ → ℕ → Section → List Item → List ℕ → Res
 scan total n s is [] = at total Cause.WordsEnd [] (within s is)
 scan total n s [] (w ∷ ws) =
     elim (enter n s w) [
-      | Ok e ↦ elim e [ Entry.Opens next ↦ scan total n next (owes w 1) ws | Entry.Closes ↦ closed total n s ws ]
+      | Ok e ↦ elim e [ Some next ↦ scan total n next (owes w 1) ws | None ↦ closed total n s ws ]
       | Err r ↦ at total r.cause (w ∷ ws) r.part
     ]
 scan total n s (i ∷ is) (w ∷ ws) =
@@ -161,13 +160,3 @@ survey ws =
     cond (nat_lt 4096 (length ws))
     (Err (record { cause = Cause.TooManyWords; place = 4096; part = Part.Head }))
     (from_first (length ws) ws)
-
--- the numbers of a section that words within the limits lead to
-abbrev pub Few : Section → Type 0
-Few (Section.Starts floor) = Unit {0}
-Few (Section.Step k) = k < 64
-Few (Section.Goal m k) = (m ≤ 64) × (k < 8)
-
-abbrev pub FewAfter : Entry → Type 0
-FewAfter (Entry.Opens s) = Few s
-FewAfter Entry.Closes = Unit {0}

@@ -32,6 +32,33 @@ pub struct SheetFault {
     pub part: Part,
 }
 
+// Why a word is refused and in which part, before its place is known.
+#[derive(Clone, Copy)]
+pub struct Refusal {
+    pub cause: Cause,
+    pub part: Part,
+}
+
+impl Cause {
+    pub(crate) fn in_part(self, part: Part) -> Refusal
+        ensures { result ≡ record { cause = self; part = part } }
+    {
+        Refusal { cause: self, part }
+    }
+}
+
+impl Refusal {
+    pub(crate) fn at(self, place: usize) -> SheetFault
+        ensures { result ≡ record { cause = self.cause; place = place; part = self.part } }
+    {
+        SheetFault {
+            cause: self.cause,
+            place,
+            part: self.part,
+        }
+    }
+}
+
 // The number of a cause.
 impl From<Cause> for u8 {
     ghost from_gives = { λ c n. n ≡ number c };

@@ -1,9 +1,9 @@
 // Reading formulas and effects: the words behind them, or why and where they are none.
-ghost use Rattle.std.specs.Prelude.{◌≡◌, ◌+◌, ◌<◌, [], ◌∷◌, length, replicate, IfOk};
+ghost use Rattle.std.specs.Prelude.{◌≡◌, ◌+◌, ◌-◌, ◌<◌, ◌≤◌, [], ◌∷◌, length, replicate, IfOk};
 ghost use Rattle.sheet.specs.Reads.{Reads};
 ghost use Rattle.sheet.specs.Survey.{admitted, owed, place_of};
 
-use crate::faults::Cause;
+use crate::faults::{Cause, Part, SheetFault};
 use crate::kinds::{Follows, Place, argument_fits, argument_of, row_of};
 
 #[derive(Clone, Copy)]
@@ -24,6 +24,16 @@ pub struct Item {
 pub struct Stop {
     pub cause: Cause,
     pub left: usize,
+}
+
+impl Stop {
+    // The fault that this is in a sheet of `total` words, in a part.
+    pub(crate) fn fault(self, total: usize, part: Part) -> SheetFault
+        requires { self.left ≤ total }
+        ensures { result ≡ record { cause = self.cause; place = total - self.left; part = part } }
+    {
+        self.cause.in_part(part).at(total - self.left)
+    }
 }
 
 impl Sort {

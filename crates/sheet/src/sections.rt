@@ -1,52 +1,54 @@
 // Where reading stands between the parts of a sheet, and what a word there does.
-ghost use Rattle.std.specs.Prelude.{◌≡◌, ◌+◌, ◌<◌, ◌≤◌, IfOk};
-ghost use Rattle.sheet.specs.Survey.{enter, enter_start, enter_step, enter_goal, enter_end, next_step, next_goal, inside, Few, FewAfter};
+ghost use Rattle.std.specs.Prelude.{◌≡◌};
+ghost use Rattle.sheet.specs.Survey.{enter, enter_start, enter_step, enter_goal, enter_end, next_step, next_goal, admitted_part, inside};
 
-use crate::faults::{Cause, Part};
+use crate::faults::{Cause, Part, Refusal};
 use crate::kinds::{Place, argument_fits, argument_of, row_of};
+
+// The most steps and goals that a sheet may have.
+const MOST_STEPS: u32 = 64;
+
+const MOST_GOALS: u32 = 8;
 
 // After the STARTs, with the least fact that the next may name; after a STEP, by its number;
 // after a GOAL, with the number of steps and its own.
 #[derive(Clone, Copy)]
 pub enum Section {
     Starts(u32),
-    Step(u32),
-    Goal(u32, u32),
+    Step(u8),
+    Goal(u32, u8),
 }
 
-// What a word between two parts does.
-#[derive(Clone, Copy)]
-pub enum Entry {
-    Opens(Section),
-    Closes,
-}
-
-#[derive(Clone, Copy)]
-pub struct Refusal {
-    pub cause: Cause,
-    pub part: Part,
+// Whether a word may open the part with this number, of at most `most`, and why not.
+fn admit_part(word: u32, facts: u32, number: u32, most: u32) -> Result<(), Cause>
+    ensures { result ≡ admitted_part facts word number most }
+{
+    if !argument_fits(word, facts) {
+        return Err(Cause::Argument);
+    }
+    if number >= most {
+        return Err(Cause::TooManyParts);
+    }
+    Ok(())
 }
 
 impl Section {
     pub(crate) fn next_step(self) -> u32
-        requires { Few self }
         ensures { result ≡ next_step self }
     {
         match self {
             Section::Starts(_) => 0,
-            Section::Step(last) => last + 1,
+            Section::Step(last) => u32::from(last) + 1,
             Section::Goal(steps, _) => steps,
         }
     }
 
     pub(crate) fn next_goal(self) -> u32
-        requires { Few self }
         ensures { result ≡ next_goal self }
     {
         match self {
-            Section::Starts(_) => 0,
-            Section::Step(_) => 0,
-            Section::Goal(_, last) => last + 1,
+            Section::Starts(_) | Section::Step(_) => 0,
+            Section::Goal(_, last) => u32::from(last) + 1,
         }
     }
 
@@ -56,102 +58,59 @@ impl Section {
     {
         match self {
             Section::Starts(_) => Part::Head,
-            Section::Step(number) => Part::Step(number),
-            Section::Goal(_, number) => Part::Goal(number),
+            Section::Step(number) => Part::Step(u32::from(number)),
+            Section::Goal(_, number) => Part::Goal(u32::from(number)),
         }
     }
 
-    fn start(self, word: u32, facts: u32) -> Result<Entry, Refusal>
-        requires { facts ≤ 64 }
-        ensures enters { result ≡ enter_start facts self word }
-        ensures few { IfOk result FewAfter }
+    fn start(self, word: u32, facts: u32) -> Result<Option<Section>, Refusal>
+        ensures { result ≡ enter_start facts self word }
     {
         let Section::Starts(floor) = self else {
-            return Err(Refusal {
-                cause: Cause::Kind,
-                part: Part::Head,
-            });
+            return Err(Cause::Kind.in_part(Part::Head));
         };
         let fact = argument_of(word);
         if argument_fits(word, facts) && floor <= fact {
-            Ok(Entry::Opens(Section::Starts(fact + 1)))
+            Ok(Some(Section::Starts(fact + 1)))
         } else {
-            Err(Refusal {
-                cause: Cause::Argument,
-                part: Part::Head,
-            })
+            Err(Cause::Argument.in_part(Part::Head))
         }
     }
 
-    fn step(self, word: u32, facts: u32) -> Result<Entry, Refusal>
-        requires { Few self }
-        ensures enters { result ≡ enter_step facts self word }
-        ensures few { IfOk result FewAfter }
+    fn step(self, word: u32, facts: u32) -> Result<Option<Section>, Refusal>
+        ensures { result ≡ enter_step facts self word }
     {
         if let Section::Goal(_, _) = self {
-            return Err(Refusal {
-                cause: Cause::Kind,
-                part: Part::Head,
-            });
+            return Err(Cause::Kind.in_part(Part::Head));
         }
         let number = self.next_step();
         let part = Part::Step(number);
-        if !argument_fits(word, facts) {
-            return Err(Refusal {
-                cause: Cause::Argument,
-                part,
-            });
-        }
-        if number >= 64 {
-            return Err(Refusal {
-                cause: Cause::TooManyParts,
-                part,
-            });
-        }
-        Ok(Entry::Opens(Section::Step(number)))
+        admit_part(word, facts, number, MOST_STEPS).map_err(|cause| cause.in_part(part))?;
+        Ok(Some(Section::Step(number as u8)))
     }
 
-    fn goal(self, word: u32, facts: u32) -> Result<Entry, Refusal>
-        requires { Few self }
-        ensures enters { result ≡ enter_goal facts self word }
-        ensures few { IfOk result FewAfter }
+    fn goal(self, word: u32, facts: u32) -> Result<Option<Section>, Refusal>
+        ensures { result ≡ enter_goal facts self word }
     {
         let number = self.next_goal();
         let part = Part::Goal(number);
-        if !argument_fits(word, facts) {
-            return Err(Refusal {
-                cause: Cause::Argument,
-                part,
-            });
-        }
-        if number >= 8 {
-            return Err(Refusal {
-                cause: Cause::TooManyParts,
-                part,
-            });
-        }
-        Ok(Entry::Opens(Section::Goal(self.next_step(), number)))
+        admit_part(word, facts, number, MOST_GOALS).map_err(|cause| cause.in_part(part))?;
+        Ok(Some(Section::Goal(self.next_step(), number as u8)))
     }
 
-    fn end(word: u32, facts: u32) -> Result<Entry, Refusal>
-        ensures enters { result ≡ enter_end facts word }
-        ensures few { IfOk result FewAfter }
+    fn end(word: u32, facts: u32) -> Result<Option<Section>, Refusal>
+        ensures { result ≡ enter_end facts word }
     {
         if argument_fits(word, facts) {
-            Ok(Entry::Closes)
+            Ok(None)
         } else {
-            Err(Refusal {
-                cause: Cause::Argument,
-                part: Part::Head,
-            })
+            Err(Cause::Argument.in_part(Part::Head))
         }
     }
 
-    pub(crate) fn entry(self, word: u32, facts: u32) -> Result<Entry, Refusal>
-        requires few { Few self }
-        requires facts { facts ≤ 64 }
-        ensures enters { result ≡ enter facts self word }
-        ensures few { IfOk result FewAfter }
+    // The section that a word opens, or none where it ends the sheet.
+    pub(crate) fn entry(self, word: u32, facts: u32) -> Result<Option<Section>, Refusal>
+        ensures { result ≡ enter facts self word }
     {
         match row_of(word).place {
             Place::Start => self.start(word, facts),
@@ -159,10 +118,7 @@ impl Section {
             Place::Goal => self.goal(word, facts),
             Place::End => Section::end(word, facts),
             Place::Formula | Place::Effect | Place::First | Place::Nowhere => {
-                Err(Refusal {
-                    cause: Cause::Kind,
-                    part: Part::Head,
-                })
+                Err(Cause::Kind.in_part(Part::Head))
             }
         }
     }

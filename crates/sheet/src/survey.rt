@@ -1,12 +1,12 @@
 // The whole run of words: the counts of the sheet that they are, or their first fault.
-ghost use Rattle.std.specs.Prelude.{◌≡◌, ◌≤◌, [], length, Err};
+ghost use Rattle.std.specs.Prelude.{◌≡◌, ◌≤◌, [], length};
 ghost use Rattle.sheet.specs.declared.sections.Section.TheVariants.{Starts};
-ghost use Rattle.sheet.specs.Survey.{scan, survey, closed, admitted_first, from_first, Few};
+ghost use Rattle.sheet.specs.Survey.{scan, survey, closed, admitted_first, from_first};
 
 use crate::faults::{Cause, Part, SheetFault};
 use crate::items::follow;
 use crate::kinds::{Place, argument_fits, argument_of, row_of};
-use crate::sections::{Entry, Section};
+use crate::sections::Section;
 
 // The most words that a sheet may have.
 const MOST_WORDS: usize = 4096;
@@ -33,83 +33,49 @@ fn admit_first(word: u32) -> Result<(), Cause>
 
 // What is behind END, in a sheet of `total` words.
 fn close(rest: &[u32], section: Section, facts: u32, total: usize) -> Result<Counts, SheetFault>
-    requires few { Few section }
-    requires within { length rest.now ≤ total }
+    requires { length rest.now ≤ total }
     ensures { result ≡ closed total facts section rest.now }
 {
-    if rest.is_empty() {
-        let steps = section.next_step();
-        let goals = section.next_goal();
-        Ok(Counts {
-            facts,
-            steps,
-            goals,
-        })
-    } else {
-        let place = total - rest.len();
-        Err(SheetFault {
-            cause: Cause::AfterEnd,
-            place,
-            part: Part::Head,
-        })
+    if !rest.is_empty() {
+        return Err(Cause::AfterEnd.in_part(Part::Head).at(total - rest.len()));
     }
+    Ok(Counts {
+        facts,
+        steps: section.next_step(),
+        goals: section.next_goal(),
+    })
 }
 
 // The words behind the first, in a sheet of `total` words.
 fn parts(words: &[u32], facts: u32, total: usize) -> Result<Counts, SheetFault>
-    requires few { facts ≤ 64 }
-    requires within { length words.now ≤ total }
+    requires { length words.now ≤ total }
     ensures { result ≡ scan total facts (Starts 0) [] words.now }
 {
     let mut section = Section::Starts(0);
     let mut rest = words;
     while let [word, tail @ ..] = rest {
         let place = total - rest.len();
-        match section.entry(*word, facts) {
-            Err(refusal) => return Err(SheetFault {
-                cause: refusal.cause,
-                place,
-                part: refusal.part,
-            }),
-            Ok(Entry::Closes) => return close(tail, section, facts, total),
-            Ok(Entry::Opens(next)) => {
-                section = next;
-                match follow(tail, row_of(*word).follows, argument_of(*word), 1, facts) {
-                    Ok(behind) => rest = behind,
-                    Err(stop) => {
-                        let place = total - stop.left;
-                        return Err(SheetFault {
-                            cause: stop.cause,
-                            place,
-                            part: section.part(),
-                        });
-                    }
-                }
-            }
-        }
+        let Some(next) = section
+            .entry(*word, facts)
+            .map_err(|refusal| refusal.at(place))?
+        else {
+            return close(tail, section, facts, total);
+        };
+        section = next;
+        rest = follow(tail, row_of(*word).follows, argument_of(*word), 1, facts).map_err(
+            |stop| stop.fault(total, section.part()),
+        )?;
     }
-    Err(SheetFault {
-        cause: Cause::WordsEnd,
-        place: total,
-        part: Part::Head,
-    })
+    Err(Cause::WordsEnd.in_part(Part::Head).at(total))
 }
 
 fn from_first(words: &[u32]) -> Result<Counts, SheetFault>
     ensures { result ≡ from_first (length words.now) words.now }
 {
     let [word, rest @ ..] = words else {
-        return Err(SheetFault {
-            cause: Cause::WordsEnd,
-            place: 0,
-            part: Part::Head,
-        });
+        return Err(Cause::WordsEnd.in_part(Part::Head).at(0));
     };
-    admit_first(*word).map_err(|cause| SheetFault {
-        cause,
-        place: 0,
-        part: Part::Head,
-    })?;
+    admit_first(*word).map_err(|cause| cause.in_part(Part::Head).at(0))?;
     parts(rest, argument_of(*word), words.len())
 }
 
@@ -117,11 +83,7 @@ pub(crate) fn survey_of(words: &[u32]) -> Result<Counts, SheetFault>
     ensures { result ≡ survey words.now }
 {
     if words.len() > MOST_WORDS {
-        return Err(SheetFault {
-            cause: Cause::TooManyWords,
-            place: MOST_WORDS,
-            part: Part::Head,
-        });
+        return Err(Cause::TooManyWords.in_part(Part::Head).at(MOST_WORDS));
     }
     from_first(words)
 }
