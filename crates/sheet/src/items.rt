@@ -1,7 +1,7 @@
 // Reading formulas and effects: the words behind them, or why and where they are none.
 ghost use Rattle.std.specs.Prelude.{◌≡◌, ◌+◌, ◌-◌, ◌<◌, ◌≤◌, [], ◌∷◌, length, replicate, IfOk};
 ghost use Rattle.sheet.specs.Reads.{Reads};
-ghost use Rattle.sheet.specs.Survey.{admitted, owed, place_of};
+ghost use Rattle.sheet.specs.Survey.{admitted, owes, place_of};
 
 use crate::faults::{Cause, Part, SheetFault};
 use crate::kinds::{Follows, Place, argument_fits, argument_of, row_of};
@@ -82,25 +82,18 @@ fn one<'a>(words: &'a [u32], item: Item, facts: u32) -> Result<&'a [u32], Stop>
         cause,
         left: words.len(),
     })?;
-    follow(
-        rest,
-        row_of(*word).follows,
-        argument_of(*word),
-        item.depth + 1,
-        facts,
-    )
+    follow(rest, *word, item.depth + 1, facts)
 }
 
-// What follows a word whose argument is `count`.
+// What follows a word.
 #[cycle(follow_members_one)]
 pub(crate) fn follow<'a>(
     words: &'a [u32],
-    follows: Follows,
-    count: u32,
+    word: u32,
     depth: u32,
     facts: u32,
 ) -> Result<&'a [u32], Stop>
-    ensures reads { Reads facts (owed follows count depth) words.now result }
+    ensures reads { Reads facts (owes word depth) words.now result }
 {
     let formula = Item {
         sort: Sort::Formula,
@@ -110,7 +103,8 @@ pub(crate) fn follow<'a>(
         sort: Sort::Effect,
         depth,
     };
-    match follows {
+    let count = argument_of(word);
+    match row_of(word).follows {
         Follows::Nothing => Ok(words),
         Follows::Formula => one(words, formula, facts),
         Follows::Formulas => members(words, formula, count, facts),

@@ -62,9 +62,7 @@ fn parts(words: &[u32], facts: u32, total: usize) -> Result<Counts, SheetFault>
             return close(tail, section, facts, total);
         };
         section = next;
-        rest = follow(tail, row_of(*word).follows, argument_of(*word), 1, facts).map_err(
-            |stop| stop.fault(total, section.part()),
-        )?;
+        rest = follow(tail, *word, 1, facts).map_err(|stop| stop.fault(total, section.part()))?;
     }
     Err(Cause::WordsEnd.in_part(Part::Head).at(total))
 }

@@ -30,5 +30,5 @@ pub one-returns : goal.one-returns
 one-returns t c =
     let some : 0 < length c.args.words.now = search rules in
     let split = first_rest c.args.words.now 0 some in
-    let p = rw (c.row_of.ensures, c.argument_of.ensures) at c.follow.ensures.reads in
+    let p = c.follow.ensures.reads in
     record { reads = reads_word _ _ _ _ _ split (search rules) _ p; shorter = shorter_word _ c.args.item _ _ _ split _ _ p }

@@ -25,15 +25,13 @@ returns-in_err-rest c =
     let some : 0 < length c.loop-rest.rest.now = search rules in
     let split = first_rest c.loop-rest.rest.now 0 some in
     let p = err_from_is_err_and c.from_residual-in_err-rest.result c.from_residual-in_err-rest.ensures.1 in
-    let reads = rw (c.row_of.ensures, c.argument_of.ensures) at c.follow.ensures.reads in
-    rw (p.1, p.2) (sym (c.loop-rest.invariant.1 ∙ part_unpaid _ _ _ _ _ _ split c.in-Some.next (search rules) _ reads _ (search rules)))
+    rw (p.1, p.2) (sym (c.loop-rest.invariant.1 ∙ part_unpaid _ _ _ _ _ _ split c.in-Some.next (search rules) _ c.follow.ensures.reads _ (search rules)))
 
 pub loop-rest-preserved : goal.loop-rest-preserved
 loop-rest-preserved c =
     let some : 0 < length c.loop-rest.rest.now = search rules in
     let split = first_rest c.loop-rest.rest.now 0 some in
-    let reads = rw (c.row_of.ensures, c.argument_of.ensures) at c.follow.ensures.reads in
-    let paid = part_paid c.args.total c.args.facts c.loop-rest.section c.loop-rest.rest.now _ _ split c.in-Some.next (search rules) _ reads c.in_ok-rest.rest (search rules) in
+    let paid = part_paid c.args.total c.args.facts c.loop-rest.section c.loop-rest.rest.now _ _ split c.in-Some.next (search rules) _ c.follow.ensures.reads c.in_ok-rest.rest (search rules) in
     (omega (arith, paid.0, c.loop-rest.invariant.0), c.loop-rest.invariant.1 ∙ paid.1)
 
 pub returns : goal.returns
