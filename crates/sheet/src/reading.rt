@@ -5,7 +5,7 @@ ghost use Rattle.sheet.specs.Decoding.{bare};
 ghost use Rattle.sheet.specs.Reading.{tree, Accepted, Refused};
 
 use crate::faults::SheetFault;
-use crate::survey::survey_of;
+use crate::survey::{Counts, survey_of};
 use crate::view::Sheet;
 
 // A sheet of no facts, steps and goals.
@@ -18,9 +18,11 @@ impl<'a> Sheet<'a> {
     {
         Sheet {
             words: &EMPTY,
-            facts: 0,
-            steps: 0,
-            goals: 0,
+            counts: Counts {
+                facts: 0,
+                steps: 0,
+                goals: 0,
+            },
         }
     }
 
@@ -29,12 +31,7 @@ impl<'a> Sheet<'a> {
         ensures { MatchResult result (λ _. Accepted words.entry self.new) (λ fault. Refused words.now fault self.old self.new) }
     {
         let counts = survey_of(words)?;
-        *self = Sheet {
-            words,
-            facts: counts.facts,
-            steps: counts.steps,
-            goals: counts.goals,
-        };
+        *self = Sheet { words, counts };
         Ok(())
     }
 
@@ -42,21 +39,21 @@ impl<'a> Sheet<'a> {
         ensures counted { result ≡ (tree self.now).facts }
         ensures few { result ≤ 64 }
     {
-        self.facts
+        self.counts.facts
     }
 
     pub fn steps(&self) -> u32
         ensures counted { result ≡ length (tree self.now).steps }
         ensures few { result ≤ 64 }
     {
-        self.steps
+        self.counts.steps
     }
 
     pub fn goals(&self) -> u32
         ensures counted { result ≡ length (tree self.now).goals }
         ensures few { result ≤ 8 }
     {
-        self.goals
+        self.counts.goals
     }
 
     // The words that the sheet views.
