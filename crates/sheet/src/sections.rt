@@ -10,13 +10,12 @@ const MOST_STEPS: u32 = 64;
 
 const MOST_GOALS: u32 = 8;
 
-// After the STARTs, with the least fact that the next may name; after a STEP, by its number;
-// after a GOAL, with the number of steps and its own.
+// After STARTs, with the least fact that the next may name; in a step or a goal, whose numbers are below 64 and 8.
 #[derive(Clone, Copy)]
 pub enum Section {
-    Starts(u32),
-    Step(u8),
-    Goal(u32, u8),
+    Starts { floor: u32 },
+    Step { number: u8 },
+    Goal { steps: u32, number: u8 },
 }
 
 // Whether a word may open the part with this number, of at most `most`, and why not.
@@ -37,9 +36,9 @@ impl Section {
         ensures { result ≡ next_step self }
     {
         match self {
-            Section::Starts(_) => 0,
-            Section::Step(last) => u32::from(last) + 1,
-            Section::Goal(steps, _) => steps,
+            Section::Starts { .. } => 0,
+            Section::Step { number } => u32::from(number) + 1,
+            Section::Goal { steps, .. } => steps,
         }
     }
 
@@ -47,8 +46,8 @@ impl Section {
         ensures { result ≡ next_goal self }
     {
         match self {
-            Section::Starts(_) | Section::Step(_) => 0,
-            Section::Goal(_, last) => u32::from(last) + 1,
+            Section::Starts { .. } | Section::Step { .. } => 0,
+            Section::Goal { number, .. } => u32::from(number) + 1,
         }
     }
 
@@ -57,21 +56,21 @@ impl Section {
         ensures { result ≡ inside self }
     {
         match self {
-            Section::Starts(_) => Part::Head,
-            Section::Step(number) => Part::Step(u32::from(number)),
-            Section::Goal(_, number) => Part::Goal(u32::from(number)),
+            Section::Starts { .. } => Part::Head,
+            Section::Step { number } => Part::Step(u32::from(number)),
+            Section::Goal { number, .. } => Part::Goal(u32::from(number)),
         }
     }
 
     fn start(self, word: u32, facts: u32) -> Result<Option<Section>, Refusal>
         ensures { result ≡ enter_start facts self word }
     {
-        let Section::Starts(floor) = self else {
+        let Section::Starts { floor } = self else {
             return Err(Cause::Kind.in_part(Part::Head));
         };
         let fact = argument_of(word);
         if argument_fits(word, facts) && floor <= fact {
-            Ok(Some(Section::Starts(fact + 1)))
+            Ok(Some(Section::Starts { floor: fact + 1 }))
         } else {
             Err(Cause::Argument.in_part(Part::Head))
         }
@@ -80,13 +79,15 @@ impl Section {
     fn step(self, word: u32, facts: u32) -> Result<Option<Section>, Refusal>
         ensures { result ≡ enter_step facts self word }
     {
-        if let Section::Goal(_, _) = self {
+        if let Section::Goal { .. } = self {
             return Err(Cause::Kind.in_part(Part::Head));
         }
         let number = self.next_step();
         let part = Part::Step(number);
         admit_part(word, facts, number, MOST_STEPS).map_err(|cause| cause.in_part(part))?;
-        Ok(Some(Section::Step(number as u8)))
+        Ok(Some(Section::Step {
+            number: number as u8,
+        }))
     }
 
     fn goal(self, word: u32, facts: u32) -> Result<Option<Section>, Refusal>
@@ -95,7 +96,10 @@ impl Section {
         let number = self.next_goal();
         let part = Part::Goal(number);
         admit_part(word, facts, number, MOST_GOALS).map_err(|cause| cause.in_part(part))?;
-        Ok(Some(Section::Goal(self.next_step(), number as u8)))
+        Ok(Some(Section::Goal {
+            steps: self.next_step(),
+            number: number as u8,
+        }))
     }
 
     fn end(word: u32, facts: u32) -> Result<Option<Section>, Refusal>

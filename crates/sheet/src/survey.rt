@@ -51,7 +51,7 @@ fn parts(words: &[u32], facts: u32, total: usize) -> Result<Counts, SheetFault>
     requires { length words.now ≤ total }
     ensures { result ≡ scan total facts (Starts 0) [] words.now }
 {
-    let mut section = Section::Starts(0);
+    let mut section = Section::Starts { floor: 0 };
     let mut rest = words;
     while let [word, tail @ ..] = rest {
         let place = total - rest.len();
