@@ -1,5 +1,6 @@
 -- Reading items one word or one item further.
-use Rattle.std.proofs.Common.{◌≡◌, ℕ, suc, ◌+◌, ◌-◌, ◌<◌, ◌≤◌, List, [], ◌∷◌, ◌++◌, length, replicate, IfOk, Ok, Err, Result, sym, ap, ◌∙◌, arith, Bor}
+use Rattle.std.proofs.Common.{◌≡◌, ℕ, suc, ◌+◌, ◌-◌, ◌<◌, ◌≤◌, List, [], ◌∷◌, ◌++◌, length, replicate, IfOk, Ok, Err, Result, MatchResult, sym, ap, ◌∙◌, arith, Bor}
+use Rattle.std.specs.Bool.{⊤}
 use Rattle.std.proofs.lemmas.List.{nil_from_length}
 use Rattle.sheet.specs.declared.faults.Cause.{Cause}
 use Rattle.sheet.specs.declared.items.Item.{Item}
@@ -18,8 +19,10 @@ unpaid_end n i ws h =
 
 -- what reading tells where the first word is w and the others are rest
 module _ (n : ℕ) (i : Item) (ws : List ℕ) (w : ℕ) (rest : List ℕ) (split : ws ≡ w ∷ rest) where
-  pub unpaid_word : (stop : Stop) → ((c : Cause) × (Err c ≡ admitted n i w) × (stop ≡ record { cause = c; left = length ws })) → Unpaid n (i ∷ []) ws stop
-  unpaid_word stop (c, h, e) =
+  pub unpaid_word : (r : Result ⊤ Cause) → r ≡ admitted n i w → (stop : Stop)
+      → MatchResult r (λ _. ⊥) (λ c. stop ≡ record { cause = c; left = length ws }) → Unpaid n (i ∷ []) ws stop
+  unpaid_word (Ok paid) h stop e = absurd e
+  unpaid_word (Err c) h stop e =
       rw e
       (record {
         within = omega arith;

@@ -60,16 +60,11 @@ same_ok x y h = cc
 
 -- what it takes that a word at this place enters so
 abbrev Entered : Place → ℕ → Section → ℕ → Option Section → Type 0
-Entered Place.Formula n s w e = ⊥
-Entered Place.Effect n s w e = ⊥
-Entered Place.First n s w e = ⊥
 Entered Place.Start n (Section.Starts floor) w e = (fits n w ≡ true) × (floor ≤ argument w) × (Some (Section.Starts (argument w + 1)) ≡ e)
-Entered Place.Start n (Section.Step k) w e = ⊥
-Entered Place.Start n (Section.Goal m k) w e = ⊥
 Entered Place.Step n s w e = (fits n w ≡ true) × Open s × (next_step s < 64) × (Some (Section.Step (next_step s)) ≡ e)
 Entered Place.Goal n s w e = (fits n w ≡ true) × (next_goal s < 8) × (Some (Section.Goal (next_step s) (next_goal s)) ≡ e)
 Entered Place.End n s w e = (fits n w ≡ true) × (None ≡ e)
-Entered Place.Nowhere n s w e = ⊥
+Entered p n s w e = ⊥
 
 module _ (n w : ℕ) (e : Option Section) where
   answered : (r : Result ⊤ Cause) (s : Section) → opened r s ≡ Ok e → (r ≡ Ok tt) × (Some s ≡ e)

@@ -80,14 +80,9 @@ word_known w k e used =
 
 -- the one kind of a place that has only one, and at other places k
 abbrev pub sole : Place → Kind → Kind
-sole Place.Formula k = k
-sole Place.Effect k = k
 sole Place.First k = Kind.Sheet
-sole Place.Start k = k
-sole Place.Step k = k
-sole Place.Goal k = k
 sole Place.End k = Kind.End
-sole Place.Nowhere k = k
+sole p k = k
 
 sole_kind : (k : Kind) → sole (row (word (code k) 0)).place k ≡ k
 sole_kind Kind.Never = refl

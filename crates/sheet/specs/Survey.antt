@@ -1,8 +1,9 @@
 -- What a run of words still owes after each prefix, and so its first fault or the counts of the sheet.
 -- A word pays what is owed first or is the fault; its causes are tested in the order of their numbers.
-use Rattle.std.specs.Prelude.{ℕ, ◌+◌, ◌-◌, Bool, cond, ◌&&◌, List, [], ◌∷◌, ◌++◌, length, replicate, ◌==◌, ⊤, Some, None, Ok, Err, Option, Result, nat_le, nat_lt}
+use Rattle.std.specs.Prelude.{ℕ, ◌+◌, ◌-◌, Bool, true, false, cond, ◌&&◌, List, [], ◌∷◌, ◌++◌, length, replicate, ⊤, Some, None, Ok, Err, Option, Result, nat_le, nat_lt}
 use Rattle.sheet.specs.declared.faults.Cause.{Cause}
 use Rattle.sheet.specs.declared.faults.Part.{Part}
+use Rattle.sheet.specs.declared.faults.Refusal.{Refusal}
 use Rattle.sheet.specs.declared.faults.SheetFault.{SheetFault}
 use Rattle.sheet.specs.declared.kinds.Follows.{Follows}
 use Rattle.sheet.specs.declared.kinds.Follows.TheVariants.{Nothing, Formula, Formulas, Effects, Guarded}
@@ -10,7 +11,6 @@ use Rattle.sheet.specs.declared.kinds.Place.{Place}
 use Rattle.sheet.specs.declared.items.Sort.{Sort}
 use Rattle.sheet.specs.declared.items.Item.{Item}
 use Rattle.sheet.specs.declared.sections.Section.{Section}
-use Rattle.sheet.specs.declared.faults.Refusal.{Refusal}
 use Rattle.sheet.specs.declared.survey.Counts.{Counts}
 use Rattle.sheet.specs.Kinds.{row, argument, fits}
 
@@ -28,17 +28,6 @@ owed Guarded c d = item Sort.Formula d ∷ item Sort.Effect d ∷ []
 abbrev pub owes : ℕ → ℕ → List Item
 owes w d = owed (row w).follows (argument w) d
 
--- a number for each place, to tell them apart
-abbrev place_code : Place → ℕ
-place_code Place.Formula = 0
-place_code Place.Effect = 1
-place_code Place.First = 2
-place_code Place.Start = 3
-place_code Place.Step = 4
-place_code Place.Goal = 5
-place_code Place.End = 6
-place_code Place.Nowhere = 7
-
 -- the place of the words that begin a formula or an effect
 abbrev pub place_of : Sort → Place
 place_of Sort.Formula = Place.Formula
@@ -46,7 +35,9 @@ place_of Sort.Effect = Place.Effect
 
 -- a word at this place begins what is owed
 abbrev pub begins : Sort → Place → Bool
-begins s p = place_code p == place_code (place_of s)
+begins Sort.Formula Place.Formula = true
+begins Sort.Effect Place.Effect = true
+begins s p = false
 
 -- whether a word pays an item, and why not
 abbrev pub admitted : ℕ → Item → ℕ → Result ⊤ Cause
@@ -78,8 +69,7 @@ inside (Section.Goal m k) = Part.Goal k
 abbrev pub enter_start : ℕ → Section → ℕ → Result (Option Section) Refusal
 enter_start n (Section.Starts floor) w =
     cond (fits n w && nat_le floor (argument w)) (Ok (Some (Section.Starts (argument w + 1)))) (refuse Cause.Argument Part.Head)
-enter_start n (Section.Step k) w = refuse Cause.Kind Part.Head
-enter_start n (Section.Goal m k) w = refuse Cause.Kind Part.Head
+enter_start n s w = refuse Cause.Kind Part.Head
 
 -- whether a word may open the part with number k, of at most so many, and why not
 abbrev pub admitted_part : ℕ → ℕ → ℕ → ℕ → Result ⊤ Cause
@@ -102,14 +92,11 @@ abbrev pub enter_end : ℕ → ℕ → Result (Option Section) Refusal
 enter_end n w = cond (fits n w) (Ok None) (refuse Cause.Argument Part.Head)
 
 abbrev pub enter_at : Place → ℕ → Section → ℕ → Result (Option Section) Refusal
-enter_at Place.Formula n s w = refuse Cause.Kind Part.Head
-enter_at Place.Effect n s w = refuse Cause.Kind Part.Head
-enter_at Place.First n s w = refuse Cause.Kind Part.Head
 enter_at Place.Start n s w = enter_start n s w
 enter_at Place.Step n s w = enter_step n s w
 enter_at Place.Goal n s w = enter_goal n s w
 enter_at Place.End n s w = enter_end n w
-enter_at Place.Nowhere n s w = refuse Cause.Kind Part.Head
+enter_at p n s w = refuse Cause.Kind Part.Head
 
 -- what a word between two parts does: it opens the next part, ends the sheet (None), or is refused
 abbrev pub enter : ℕ → Section → ℕ → Result (Option Section) Refusal
@@ -142,9 +129,13 @@ scan total n s (i ∷ is) (w ∷ ws) =
       | Err c ↦ at total c (w ∷ ws) (inside s)
     ]
 
+abbrev is_first : Place → Bool
+is_first Place.First = true
+is_first p = false
+
 -- whether a word may come first, and why not
 abbrev pub admitted_first : ℕ → Result ⊤ Cause
-admitted_first w = cond (place_code (row w).place == place_code Place.First) (cond (fits 0 w) (Ok tt) (Err Cause.Argument)) (Err Cause.Kind)
+admitted_first w = cond (is_first (row w).place) (cond (fits 0 w) (Ok tt) (Err Cause.Argument)) (Err Cause.Kind)
 
 abbrev pub from_first : ℕ → List ℕ → Result Counts SheetFault
 from_first total [] = at total Cause.WordsEnd [] Part.Head

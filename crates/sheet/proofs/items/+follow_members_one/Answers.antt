@@ -24,7 +24,7 @@ pub one-returns-in_err-map_err : goal.one-returns-in_err-map_err
 one-returns-in_err-map_err t c =
     let p = err_from_is_err_and c.from_residual.result c.from_residual.ensures.1 in
     let some : 0 < length c.args.words.now = search rules in
-    rw (p.1, p.2) (record { reads = unpaid_word _ _ _ _ _ (first_rest c.args.words.now 0 some) _ (search rules); shorter = tt })
+    rw (p.1, p.2) (record { reads = unpaid_word _ _ _ _ _ (first_rest c.args.words.now 0 some) c.admit.result c.admit.ensures _ (search rules); shorter = tt })
 
 pub one-returns : goal.one-returns
 one-returns t c =
