@@ -1,13 +1,12 @@
 -- What holds at every moment of a day, by going through the list of calls.
-use Rattle.std.proofs.Common.{◌≡◌, ℕ, ◌<◌, ◌≤◌, Bool, true, false, cond, ◌&&◌, eqb, ltb, List, [], ◌∷◌, ◌++◌, length, sym, refl, ap, ◌∙◌, subst, append_assoc, arith}
+use Rattle.std.proofs.Common.{◌≡◌, ℕ, ◌<◌, ◌≤◌, Bool, true, false, cond, ◌&&◌, eqb, ltb, List, [], ◌∷◌, ◌++◌, length, sym, refl, ap, ◌∙◌, subst, append_assoc, arith, Ok, Err}
 use Rattle.std.proofs.lemmas.List.{append-nil, length_push}
 use Rattle.std.proofs.lemmas.Bool.{lt-ltb, le-ltb}
 use Rattle.sheet.specs.Trees.{Tree, step_at}
 use Rattle.execution.specs.Execution.{Executable, Executes, successor, start_of}
-use Rattle.job.specs.declared.calls.Answer.{Answer}
-use Rattle.job.specs.declared.calls.Answer.TheVariants.{Done, Refused}
 use Rattle.job.specs.declared.calls.Call.{Call}
 use Rattle.job.specs.declared.calls.Call.TheVariants.{Do, Strike, Allow}
+use Rattle.job.specs.Answers.{Answer}
 use Rattle.job.specs.Ledger.{Ledger, Happens, Does, most_done}
 use Rattle.job.specs.Moments.{Runs, Moment, DayStands, PromisedList, opening, accepted, accepted_one, marked, marked_one}
 use Rattle.job.proofs.Decided.{unmarked_past}
@@ -44,12 +43,12 @@ module _ (t : Tree) where
       }
 
   kept_after : (l : Ledger) (c : Call) (a : Answer) (m : Ledger) → Happens t l c a m → Kept l → Kept m
-  kept_after l (Do k) Done m h kept = kept_after_do l m k h kept
-  kept_after l (Do k) (Refused f) m h kept = subst Kept (sym h.1) kept
-  kept_after l (Strike k) Done m h kept = kept_same l m h.state_stays h.done_stay kept
-  kept_after l (Strike k) (Refused f) m h kept = subst Kept (sym h.1) kept
-  kept_after l (Allow k) Done m h kept = kept_same l m h.state_stays h.done_stay kept
-  kept_after l (Allow k) (Refused f) m h kept = subst Kept (sym h.1) kept
+  kept_after l (Do k) (Ok u) m h kept = kept_after_do l m k h kept
+  kept_after l (Do k) (Err f) m h kept = subst Kept (sym h.1) kept
+  kept_after l (Strike k) (Ok u) m h kept = kept_same l m h.state_stays h.done_stay kept
+  kept_after l (Strike k) (Err f) m h kept = subst Kept (sym h.1) kept
+  kept_after l (Allow k) (Ok u) m h kept = kept_same l m h.state_stays h.done_stay kept
+  kept_after l (Allow k) (Err f) m h kept = subst Kept (sym h.1) kept
 
   kept_along : (l : Ledger) (cs : List Call) (rs : List Answer) (m : Ledger) → Runs t l cs rs m → Kept l → Kept m
   kept_along l [] [] m h kept = subst Kept (sym h) kept
@@ -58,12 +57,12 @@ module _ (t : Tree) where
   kept_along l (c ∷ cs) (a ∷ rs) m h kept = kept_along h.0 cs rs m h.2 (kept_after l c a h.0 h.1 kept)
 
   done_after : (l : Ledger) (c : Call) (a : Answer) (m : Ledger) → Happens t l c a m → m.done ≡ l.done ++ accepted_one c a
-  done_after l (Do k) Done m h = h.step_comes_last
-  done_after l (Do k) (Refused f) m h = ap (λ (x : Ledger). x.done) h.1 ∙ sym (append-nil l.done)
-  done_after l (Strike k) Done m h = h.done_stay ∙ sym (append-nil l.done)
-  done_after l (Strike k) (Refused f) m h = ap (λ (x : Ledger). x.done) h.1 ∙ sym (append-nil l.done)
-  done_after l (Allow k) Done m h = h.done_stay ∙ sym (append-nil l.done)
-  done_after l (Allow k) (Refused f) m h = ap (λ (x : Ledger). x.done) h.1 ∙ sym (append-nil l.done)
+  done_after l (Do k) (Ok u) m h = h.step_comes_last
+  done_after l (Do k) (Err f) m h = ap (λ (x : Ledger). x.done) h.1 ∙ sym (append-nil l.done)
+  done_after l (Strike k) (Ok u) m h = h.done_stay ∙ sym (append-nil l.done)
+  done_after l (Strike k) (Err f) m h = ap (λ (x : Ledger). x.done) h.1 ∙ sym (append-nil l.done)
+  done_after l (Allow k) (Ok u) m h = h.done_stay ∙ sym (append-nil l.done)
+  done_after l (Allow k) (Err f) m h = ap (λ (x : Ledger). x.done) h.1 ∙ sym (append-nil l.done)
 
   done_along : (l : Ledger) (cs : List Call) (rs : List Answer) (m : Ledger) → Runs t l cs rs m → m.done ≡ l.done ++ accepted cs rs
   done_along l [] [] m h = ap (λ (x : Ledger). x.done) h ∙ sym (append-nil l.done)
@@ -88,12 +87,12 @@ module _ (t : Tree) where
     marks_not j mark b past = ap (λ (x : Bool). cond (x && eqb k j) mark b) (sym (le-ltb j (length t.steps) past))
 
     struck_after : (l : Ledger) (c : Call) (a : Answer) (m : Ledger) → Happens t l c a m → m.struck k ≡ marked_one t k (l.struck k) c
-    struck_after l (Do j) Done m h = ap (λ (x : ℕ → Bool). x k) h.strikes_stay
-    struck_after l (Do j) (Refused f) m h = ap (λ (x : Ledger). x.struck k) h.1
-    struck_after l (Strike j) Done m h = ap (λ (x : ℕ → Bool). x k) h.step_is_marked ∙ marks_when j true (l.struck k) h.on_the_sheet
-    struck_after l (Strike j) (Refused f) m h = ap (λ (x : Ledger). x.struck k) h.1 ∙ marks_not j true (l.struck k) (unmarked_past t j f h.0)
-    struck_after l (Allow j) Done m h = ap (λ (x : ℕ → Bool). x k) h.step_is_marked ∙ marks_when j false (l.struck k) h.on_the_sheet
-    struck_after l (Allow j) (Refused f) m h = ap (λ (x : Ledger). x.struck k) h.1 ∙ marks_not j false (l.struck k) (unmarked_past t j f h.0)
+    struck_after l (Do j) (Ok u) m h = ap (λ (x : ℕ → Bool). x k) h.strikes_stay
+    struck_after l (Do j) (Err f) m h = ap (λ (x : Ledger). x.struck k) h.1
+    struck_after l (Strike j) (Ok u) m h = ap (λ (x : ℕ → Bool). x k) h.step_is_marked ∙ marks_when j true (l.struck k) h.on_the_sheet
+    struck_after l (Strike j) (Err f) m h = ap (λ (x : Ledger). x.struck k) h.1 ∙ marks_not j true (l.struck k) (unmarked_past t j f h.0)
+    struck_after l (Allow j) (Ok u) m h = ap (λ (x : ℕ → Bool). x k) h.step_is_marked ∙ marks_when j false (l.struck k) h.on_the_sheet
+    struck_after l (Allow j) (Err f) m h = ap (λ (x : Ledger). x.struck k) h.1 ∙ marks_not j false (l.struck k) (unmarked_past t j f h.0)
 
     struck_along : (l : Ledger) (cs : List Call) (rs : List Answer) (m : Ledger) → Runs t l cs rs m → m.struck k ≡ marked t k (l.struck k) cs
     struck_along l [] [] m h = ap (λ (x : Ledger). x.struck k) h

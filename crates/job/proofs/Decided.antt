@@ -1,16 +1,15 @@
 -- One call has one answer, and one ledger after it.
-use Rattle.std.proofs.Common.{◌≡◌, ℕ, zero, suc, ◌<◌, ◌≤◌, Bool, true, false, length, sym, refl, ap, ◌∙◌, ⊎_elim, arith}
+use Rattle.std.proofs.Common.{◌≡◌, ℕ, zero, suc, ◌<◌, ◌≤◌, Bool, true, false, length, sym, refl, ap, ◌∙◌, ⊎_elim, arith, Ok, Err}
 use Rattle.std.proofs.lemmas.Bool.{both_ways, cases_order}
 use Rattle.sheet.specs.Trees.{Tree, step_at}
 use Rattle.execution.specs.Execution.{Clash}
 use Rattle.execution.specs.Truth.{truth}
-use Rattle.job.specs.declared.calls.Answer.{Answer}
-use Rattle.job.specs.declared.calls.Answer.TheVariants.{Done, Refused}
 use Rattle.job.specs.declared.calls.Call.{Call}
 use Rattle.job.specs.declared.calls.Call.TheVariants.{Do, Strike, Allow}
 use Rattle.job.specs.declared.faults.DoFault.{DoFault}
 use Rattle.job.specs.declared.faults.DoFault.TheVariants.{Step, TrailFull}
 use Rattle.job.specs.declared.faults.StepFault.TheVariants.{NoSuchStep, Struck, ConditionFalse, SetAndCleared}
+use Rattle.job.specs.Answers.{Answer}
 use Rattle.job.specs.Ledger.{Ledger, Happens, Unmarked, Marks, most_done}
 
 same_ledger : (l m : Ledger) → l.state ≡ m.state → l.struck ≡ m.struck → l.done ≡ m.done → l ≡ m
@@ -18,28 +17,28 @@ same_ledger l m p q r = λ i. record { state = p i; struck = q i; done = r i }
 
 -- how many tests a call to do passes before it is answered so
 abbrev stage : Answer → ℕ
-stage (Refused (Step NoSuchStep)) = 0
-stage (Refused (Step Struck)) = 1
-stage (Refused (Step ConditionFalse)) = 2
-stage (Refused (Step SetAndCleared)) = 3
-stage (Refused TrailFull) = 4
-stage Done = 5
+stage (Err (Step NoSuchStep)) = 0
+stage (Err (Step Struck)) = 1
+stage (Err (Step ConditionFalse)) = 2
+stage (Err (Step SetAndCleared)) = 3
+stage (Err TrailFull) = 4
+stage (Ok u) = 5
 
 abbrev at_stage : ℕ → Answer
-at_stage zero = Refused (Step NoSuchStep)
-at_stage (suc zero) = Refused (Step Struck)
-at_stage (suc (suc zero)) = Refused (Step ConditionFalse)
-at_stage (suc (suc (suc zero))) = Refused (Step SetAndCleared)
-at_stage (suc (suc (suc (suc zero)))) = Refused TrailFull
-at_stage (suc (suc (suc (suc (suc n))))) = Done
+at_stage zero = Err (Step NoSuchStep)
+at_stage (suc zero) = Err (Step Struck)
+at_stage (suc (suc zero)) = Err (Step ConditionFalse)
+at_stage (suc (suc (suc zero))) = Err (Step SetAndCleared)
+at_stage (suc (suc (suc (suc zero)))) = Err TrailFull
+at_stage (suc (suc (suc (suc (suc n))))) = Ok tt
 
 stage_back : (a : Answer) → at_stage (stage a) ≡ a
-stage_back (Refused (Step NoSuchStep)) = refl
-stage_back (Refused (Step Struck)) = refl
-stage_back (Refused (Step ConditionFalse)) = refl
-stage_back (Refused (Step SetAndCleared)) = refl
-stage_back (Refused TrailFull) = refl
-stage_back Done = refl
+stage_back (Err (Step NoSuchStep)) = refl
+stage_back (Err (Step Struck)) = refl
+stage_back (Err (Step ConditionFalse)) = refl
+stage_back (Err (Step SetAndCleared)) = refl
+stage_back (Err TrailFull) = refl
+stage_back (Ok u) = refl
 
 -- a mark is refused for the one cause that the sheet has no such step
 pub unmarked_past : (t : Tree) (k : ℕ) (f : DoFault) → Unmarked t k f → length t.steps ≤ k
@@ -73,42 +72,42 @@ module _ (t : Tree) (l : Ledger) (k : ℕ) where
   not_both (suc (suc (suc (suc n)))) p f = omega arith
 
   passes_below : (a : Answer) (m : Ledger) → Happens t l (Do k) a m → (n : ℕ) → n < stage a → Passes n
-  passes_below (Refused (Step NoSuchStep)) m h n lt = absurd (omega arith)
-  passes_below (Refused (Step Struck)) m h zero lt = h.0.0
-  passes_below (Refused (Step Struck)) m h (suc n) lt = absurd (omega arith)
-  passes_below (Refused (Step ConditionFalse)) m h zero lt = h.0.0
-  passes_below (Refused (Step ConditionFalse)) m h (suc zero) lt = h.0.1
-  passes_below (Refused (Step ConditionFalse)) m h (suc (suc n)) lt = absurd (omega arith)
-  passes_below (Refused (Step SetAndCleared)) m h zero lt = h.0.0
-  passes_below (Refused (Step SetAndCleared)) m h (suc zero) lt = h.0.1
-  passes_below (Refused (Step SetAndCleared)) m h (suc (suc zero)) lt = h.0.2
-  passes_below (Refused (Step SetAndCleared)) m h (suc (suc (suc n))) lt = absurd (omega arith)
-  passes_below (Refused TrailFull) m h zero lt = h.0.0.on_the_sheet
-  passes_below (Refused TrailFull) m h (suc zero) lt = h.0.0.allowed
-  passes_below (Refused TrailFull) m h (suc (suc zero)) lt = h.0.0.executable.condition_true
-  passes_below (Refused TrailFull) m h (suc (suc (suc zero))) lt = h.0.0.executable.nothing_set_and_cleared
-  passes_below (Refused TrailFull) m h (suc (suc (suc (suc n)))) lt = absurd (omega arith)
-  passes_below Done m h zero lt = h.ready.on_the_sheet
-  passes_below Done m h (suc zero) lt = h.ready.allowed
-  passes_below Done m h (suc (suc zero)) lt = h.ready.executable.condition_true
-  passes_below Done m h (suc (suc (suc zero))) lt = h.ready.executable.nothing_set_and_cleared
-  passes_below Done m h (suc (suc (suc (suc n)))) lt = h.room
+  passes_below (Err (Step NoSuchStep)) m h n lt = absurd (omega arith)
+  passes_below (Err (Step Struck)) m h zero lt = h.0.0
+  passes_below (Err (Step Struck)) m h (suc n) lt = absurd (omega arith)
+  passes_below (Err (Step ConditionFalse)) m h zero lt = h.0.0
+  passes_below (Err (Step ConditionFalse)) m h (suc zero) lt = h.0.1
+  passes_below (Err (Step ConditionFalse)) m h (suc (suc n)) lt = absurd (omega arith)
+  passes_below (Err (Step SetAndCleared)) m h zero lt = h.0.0
+  passes_below (Err (Step SetAndCleared)) m h (suc zero) lt = h.0.1
+  passes_below (Err (Step SetAndCleared)) m h (suc (suc zero)) lt = h.0.2
+  passes_below (Err (Step SetAndCleared)) m h (suc (suc (suc n))) lt = absurd (omega arith)
+  passes_below (Err TrailFull) m h zero lt = h.0.0.on_the_sheet
+  passes_below (Err TrailFull) m h (suc zero) lt = h.0.0.allowed
+  passes_below (Err TrailFull) m h (suc (suc zero)) lt = h.0.0.executable.condition_true
+  passes_below (Err TrailFull) m h (suc (suc (suc zero))) lt = h.0.0.executable.nothing_set_and_cleared
+  passes_below (Err TrailFull) m h (suc (suc (suc (suc n)))) lt = absurd (omega arith)
+  passes_below (Ok u) m h zero lt = h.ready.on_the_sheet
+  passes_below (Ok u) m h (suc zero) lt = h.ready.allowed
+  passes_below (Ok u) m h (suc (suc zero)) lt = h.ready.executable.condition_true
+  passes_below (Ok u) m h (suc (suc (suc zero))) lt = h.ready.executable.nothing_set_and_cleared
+  passes_below (Ok u) m h (suc (suc (suc (suc n)))) lt = h.room
 
   fails_at : (a : Answer) (m : Ledger) → Happens t l (Do k) a m → stage a < 5 → Fails (stage a)
-  fails_at (Refused (Step NoSuchStep)) m h lt = h.0
-  fails_at (Refused (Step Struck)) m h lt = h.0.1
-  fails_at (Refused (Step ConditionFalse)) m h lt = h.0.2
-  fails_at (Refused (Step SetAndCleared)) m h lt = h.0.3
-  fails_at (Refused TrailFull) m h lt = h.0.1
-  fails_at Done m h lt = absurd (omega arith)
+  fails_at (Err (Step NoSuchStep)) m h lt = h.0
+  fails_at (Err (Step Struck)) m h lt = h.0.1
+  fails_at (Err (Step ConditionFalse)) m h lt = h.0.2
+  fails_at (Err (Step SetAndCleared)) m h lt = h.0.3
+  fails_at (Err TrailFull) m h lt = h.0.1
+  fails_at (Ok u) m h lt = absurd (omega arith)
 
   stage_most : (a : Answer) → stage a ≤ 5
-  stage_most (Refused (Step NoSuchStep)) = omega arith
-  stage_most (Refused (Step Struck)) = omega arith
-  stage_most (Refused (Step ConditionFalse)) = omega arith
-  stage_most (Refused (Step SetAndCleared)) = omega arith
-  stage_most (Refused TrailFull) = omega arith
-  stage_most Done = omega arith
+  stage_most (Err (Step NoSuchStep)) = omega arith
+  stage_most (Err (Step Struck)) = omega arith
+  stage_most (Err (Step ConditionFalse)) = omega arith
+  stage_most (Err (Step SetAndCleared)) = omega arith
+  stage_most (Err TrailFull) = omega arith
+  stage_most (Ok u) = omega arith
 
   never_earlier : (a b : Answer) (m n : Ledger) → Happens t l (Do k) a m → Happens t l (Do k) b n → stage a < stage b → ⊥
   never_earlier a b m n x y lt = not_both (stage a) (passes_below b n y (stage a) lt) (fails_at a m x (omega (arith, stage_most b)))
@@ -121,9 +120,9 @@ module _ (t : Tree) (l : Ledger) (k : ℕ) where
       (cases_order (stage a) (stage b))
 
   same_after_do : (a : Answer) (m n : Ledger) → Happens t l (Do k) a m → Happens t l (Do k) a n → n ≡ m
-  same_after_do Done m n x y =
+  same_after_do (Ok u) m n x y =
       same_ledger n m (y.state_follows ∙ sym x.state_follows) (y.strikes_stay ∙ sym x.strikes_stay) (y.step_comes_last ∙ sym x.step_comes_last)
-  same_after_do (Refused f) m n x y = y.1 ∙ sym x.1
+  same_after_do (Err f) m n x y = y.1 ∙ sym x.1
 
   same_mark : (mark : Bool) (m n : Ledger) → Marks t l k mark m → Marks t l k mark n → n ≡ m
   same_mark mark m n x y =
@@ -136,18 +135,18 @@ module _ (t : Tree) (l : Ledger) (k : ℕ) where
   no_such_step (Step SetAndCleared) h = absurd h
   no_such_step TrailFull h = absurd h
 
-  same_unmarked : (f g : DoFault) → Unmarked t k f → Unmarked t k g → ◌≡◌ {A = Answer} (Refused g) (Refused f)
-  same_unmarked f g x y = ap Refused (no_such_step g y ∙ sym (no_such_step f x))
+  same_unmarked : (f g : DoFault) → Unmarked t k f → Unmarked t k g → ◌≡◌ {A = Answer} (Err g) (Err f)
+  same_unmarked f g x y = ap Err (no_such_step g y ∙ sym (no_such_step f x))
 
 pub decided : (t : Tree) (l : Ledger) (c : Call) (a b : Answer) (m n : Ledger) → Happens t l c a m → Happens t l c b n → (b ≡ a) × (n ≡ m)
 decided t l (Do k) a b m n x y =
     let same = same_answer t l k a b m n x y in
     (same, same_after_do t l k a m n x (rw same at y))
-decided t l (Strike k) Done Done m n x y = (refl, same_mark t l k true m n x y)
-decided t l (Strike k) Done (Refused g) m n x y = absurd (omega (arith, x.on_the_sheet, unmarked_past t k g y.0))
-decided t l (Strike k) (Refused f) Done m n x y = absurd (omega (arith, y.on_the_sheet, unmarked_past t k f x.0))
-decided t l (Strike k) (Refused f) (Refused g) m n x y = (same_unmarked t l k f g x.0 y.0, y.1 ∙ sym x.1)
-decided t l (Allow k) Done Done m n x y = (refl, same_mark t l k false m n x y)
-decided t l (Allow k) Done (Refused g) m n x y = absurd (omega (arith, x.on_the_sheet, unmarked_past t k g y.0))
-decided t l (Allow k) (Refused f) Done m n x y = absurd (omega (arith, y.on_the_sheet, unmarked_past t k f x.0))
-decided t l (Allow k) (Refused f) (Refused g) m n x y = (same_unmarked t l k f g x.0 y.0, y.1 ∙ sym x.1)
+decided t l (Strike k) (Ok u) (Ok v) m n x y = (refl, same_mark t l k true m n x y)
+decided t l (Strike k) (Ok u) (Err g) m n x y = absurd (omega (arith, x.on_the_sheet, unmarked_past t k g y.0))
+decided t l (Strike k) (Err f) (Ok u) m n x y = absurd (omega (arith, y.on_the_sheet, unmarked_past t k f x.0))
+decided t l (Strike k) (Err f) (Err g) m n x y = (same_unmarked t l k f g x.0 y.0, y.1 ∙ sym x.1)
+decided t l (Allow k) (Ok u) (Ok v) m n x y = (refl, same_mark t l k false m n x y)
+decided t l (Allow k) (Ok u) (Err g) m n x y = absurd (omega (arith, x.on_the_sheet, unmarked_past t k g y.0))
+decided t l (Allow k) (Err f) (Ok u) m n x y = absurd (omega (arith, y.on_the_sheet, unmarked_past t k f x.0))
+decided t l (Allow k) (Err f) (Err g) m n x y = (same_unmarked t l k f g x.0 y.0, y.1 ∙ sym x.1)

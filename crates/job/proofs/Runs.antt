@@ -1,14 +1,12 @@
 -- Lists of calls put together.
-use Rattle.std.proofs.Common.{◌≡◌, ℕ, ◌+◌, ◌<◌, ◌≤◌, Bool, true, false, List, [], ◌∷◌, ◌++◌, length, get_or, take, sym, refl, ◌∙◌, subst, ap₂, subst₂}
+use Rattle.std.proofs.Common.{◌≡◌, ℕ, ◌+◌, ◌<◌, ◌≤◌, Bool, true, false, List, [], ◌∷◌, ◌++◌, length, get_or, take, sym, refl, ◌∙◌, subst, ap₂, subst₂, Ok, Err}
 use Rattle.std.proofs.lemmas.List.{take_more}
 use Rattle.sheet.specs.Trees.{Tree}
-use Rattle.job.specs.declared.calls.Answer.{Answer}
-use Rattle.job.specs.declared.calls.Answer.TheVariants.{Done, Refused}
 use Rattle.job.specs.declared.calls.Call.{Call}
 use Rattle.job.specs.declared.calls.Call.TheVariants.{Strike, Allow}
 use Rattle.job.specs.declared.faults.DoFault.TheVariants.{Step}
 use Rattle.job.specs.declared.faults.StepFault.TheVariants.{NoSuchStep}
-use Rattle.job.specs.Answers.{marking}
+use Rattle.job.specs.Answers.{Answer, marking}
 use Rattle.job.specs.Ledger.{Ledger, Happens, Marks}
 use Rattle.job.proofs.Decided.{decided}
 use Rattle.job.specs.Moments.{Runs, opening, Promised}
@@ -54,10 +52,10 @@ module _ (t : Tree) where
       let rest = runs_decided x.0 m n cs rs qs x.2 (subst (λ (k : Ledger). Runs t k cs qs n) first.1 y.2) in
       (ap₂ ◌∷◌ first.0 rest.0, rest.1)
 
-  pub promised_mark : (l : Ledger) (k : ℕ) (mark : Bool) (m : Ledger) → Marks t l k mark m → Promised t l (marking mark k) Done m
-  promised_mark l k true m h = promised l (Strike k) Done m h
-  promised_mark l k false m h = promised l (Allow k) Done m h
+  pub promised_mark : (l : Ledger) (k : ℕ) (mark : Bool) (m : Ledger) → Marks t l k mark m → Promised t l (marking mark k) (Ok tt) m
+  promised_mark l k true m h = promised l (Strike k) (Ok tt) m h
+  promised_mark l k false m h = promised l (Allow k) (Ok tt) m h
 
-  pub promised_unmarked : (l : Ledger) (k : ℕ) (mark : Bool) → length t.steps ≤ k → Promised t l (marking mark k) (Refused (Step NoSuchStep)) l
-  promised_unmarked l k true past = promised l (Strike k) (Refused (Step NoSuchStep)) l (past, refl)
-  promised_unmarked l k false past = promised l (Allow k) (Refused (Step NoSuchStep)) l (past, refl)
+  pub promised_unmarked : (l : Ledger) (k : ℕ) (mark : Bool) → length t.steps ≤ k → Promised t l (marking mark k) (Err (Step NoSuchStep)) l
+  promised_unmarked l k true past = promised l (Strike k) (Err (Step NoSuchStep)) l (past, refl)
+  promised_unmarked l k false past = promised l (Allow k) (Err (Step NoSuchStep)) l (past, refl)

@@ -1,13 +1,12 @@
 -- One try of a step has one outcome.
-use Rattle.std.proofs.Common.{◌≡◌, ℕ, refl, arith}
+use Rattle.std.proofs.Common.{◌≡◌, ℕ, refl, arith, Err}
 use Rattle.std.proofs.lemmas.Bool.{both_ways}
 use Rattle.sheet.specs.Trees.{Tree}
-use Rattle.job.specs.declared.calls.Answer.{Answer}
-use Rattle.job.specs.declared.calls.Answer.TheVariants.{Refused}
 use Rattle.job.specs.declared.calls.Call.TheVariants.{Do}
 use Rattle.job.specs.declared.faults.DoFault.TheVariants.{Step}
 use Rattle.job.specs.declared.faults.StepFault.{StepFault}
 use Rattle.job.specs.declared.faults.StepFault.TheVariants.{NoSuchStep, Struck, ConditionFalse, SetAndCleared}
+use Rattle.job.specs.Answers.{Answer}
 use Rattle.job.specs.Ledger.{Ledger, Hindered, Ready}
 use Rattle.job.proofs.Decided.{decided}
 
@@ -21,6 +20,6 @@ module _ (t : Tree) (l : Ledger) (k : ℕ) where
   -- a call to do it is refused for one cause
   pub hindered_once : (f g : StepFault) → Hindered t l k f → Hindered t l k g → g ≡ f
   hindered_once f g x y =
-      let same : ◌≡◌ {A = Answer} (Refused (Step g)) (Refused (Step f)) =
-      (decided t l (Do k) (Refused (Step f)) (Refused (Step g)) l l (x, refl) (y, refl)).0 in
+      let same : ◌≡◌ {A = Answer} (Err (Step g)) (Err (Step f)) =
+      (decided t l (Do k) (Err (Step f)) (Err (Step g)) l l (x, refl) (y, refl)).0 in
       cc

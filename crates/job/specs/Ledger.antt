@@ -1,17 +1,16 @@
 -- The ledger of a job: what it holds, fed only the sheet and each call's arguments, and what one call does to it.
-use Rattle.std.specs.Prelude.{◌≡◌, ℕ, ◌<◌, ◌≤◌, Bool, true, false, List, [], ◌∷◌, ◌++◌, length}
+use Rattle.std.specs.Prelude.{◌≡◌, ℕ, ◌<◌, ◌≤◌, Bool, true, false, List, [], ◌∷◌, ◌++◌, length, Ok, Err}
 use Rattle.bits.specs.Bits.{put}
 use Rattle.sheet.specs.Trees.{Tree, step_at}
 use Rattle.execution.specs.Truth.{truth}
 use Rattle.execution.specs.Execution.{Clash, Executable, successor}
-use Rattle.job.specs.declared.calls.Answer.{Answer}
-use Rattle.job.specs.declared.calls.Answer.TheVariants.{Done, Refused}
 use Rattle.job.specs.declared.calls.Call.{Call}
 use Rattle.job.specs.declared.calls.Call.TheVariants.{Do, Strike, Allow}
 use Rattle.job.specs.declared.faults.DoFault.{DoFault}
 use Rattle.job.specs.declared.faults.DoFault.TheVariants.{Step, TrailFull}
 use Rattle.job.specs.declared.faults.StepFault.{StepFault}
 use Rattle.job.specs.declared.faults.StepFault.TheVariants.{NoSuchStep, Struck, ConditionFalse, SetAndCleared}
+use Rattle.job.specs.Answers.{Answer}
 
 -- done lists the steps done, the first one first
 pub record Ledger : Type 0 where
@@ -69,9 +68,9 @@ Undone t l k TrailFull = Ready t l k × (most_done ≤ length l.done)
 
 -- one call: the ledger before, what is asked and answered, and the ledger after; a refusal changes nothing
 abbrev pub Happens : Tree → Ledger → Call → Answer → Ledger → Type 0
-Happens t l (Do k) Done m = Does t l k m
-Happens t l (Do k) (Refused f) m = Undone t l k f × (m ≡ l)
-Happens t l (Strike k) Done m = Marks t l k true m
-Happens t l (Strike k) (Refused f) m = Unmarked t k f × (m ≡ l)
-Happens t l (Allow k) Done m = Marks t l k false m
-Happens t l (Allow k) (Refused f) m = Unmarked t k f × (m ≡ l)
+Happens t l (Do k) (Ok u) m = Does t l k m
+Happens t l (Do k) (Err f) m = Undone t l k f × (m ≡ l)
+Happens t l (Strike k) (Ok u) m = Marks t l k true m
+Happens t l (Strike k) (Err f) m = Unmarked t k f × (m ≡ l)
+Happens t l (Allow k) (Ok u) m = Marks t l k false m
+Happens t l (Allow k) (Err f) m = Unmarked t k f × (m ≡ l)

@@ -1,11 +1,10 @@
 -- Lists of calls, the moments that they lead to from the opening, and what holds at every moment of a day.
-use Rattle.std.specs.Prelude.{◌≡◌, ℕ, ◌≤◌, Bool, true, false, cond, ◌&&◌, List, [], ◌∷◌, ◌++◌, length, ◌==◌, nat_lt}
+use Rattle.std.specs.Prelude.{◌≡◌, ℕ, ◌≤◌, Bool, true, false, cond, ◌&&◌, List, [], ◌∷◌, ◌++◌, length, ◌==◌, nat_lt, Ok, Err}
 use Rattle.sheet.specs.Trees.{Tree}
 use Rattle.execution.specs.Execution.{Executes, start_of}
-use Rattle.job.specs.declared.calls.Answer.{Answer}
-use Rattle.job.specs.declared.calls.Answer.TheVariants.{Done, Refused}
 use Rattle.job.specs.declared.calls.Call.{Call}
 use Rattle.job.specs.declared.calls.Call.TheVariants.{Do, Strike, Allow}
+use Rattle.job.specs.Answers.{Answer}
 use Rattle.job.specs.Ledger.{Ledger, Happens, most_done}
 
 -- a list of calls, call by call, each with its answer
@@ -25,8 +24,8 @@ Moment t cs rs l = Runs t (opening t) cs rs l
 
 -- the steps of the calls to do that were answered done, in their order
 abbrev pub accepted_one : Call → Answer → List ℕ
-accepted_one (Do k) Done = k ∷ []
-accepted_one (Do k) (Refused f) = []
+accepted_one (Do k) (Ok u) = k ∷ []
+accepted_one (Do k) (Err f) = []
 accepted_one (Strike k) a = []
 accepted_one (Allow k) a = []
 

@@ -1,12 +1,11 @@
 -- What a job's record holds, as a ledger.
-use Rattle.std.specs.Prelude.{◌≡◌, ℕ, Bool, List, take}
+use Rattle.std.specs.Prelude.{◌≡◌, ℕ, Bool, List, take, Ok, Err}
 use Rattle.bits.specs.Bits.{bit}
 use Rattle.execution.specs.State.{holds}
 use Rattle.job.specs.declared.strikes.Strikes.{Strikes}
 use Rattle.job.specs.declared.trail.Trail.{Trail}
-use Rattle.job.specs.declared.calls.Answer.{Answer}
-use Rattle.job.specs.declared.calls.Answer.TheVariants.{Done, Refused}
 use Rattle.job.specs.declared.jobs.Job.{Job}
+use Rattle.job.specs.Answers.{Answer}
 use Rattle.job.specs.Ledger.{Ledger}
 
 abbrev pub struck_in : Strikes → ℕ → Bool
@@ -20,5 +19,5 @@ ledger j = record { state = holds j.state; struck = struck_in j.strikes; done = 
 
 -- a refused call leaves the whole record as it was
 abbrev pub RefusalKeeps : Answer → Job → Job → Type 0
-RefusalKeeps Done before after = Unit {0}
-RefusalKeeps (Refused f) before after = after ≡ before
+RefusalKeeps (Ok u) before after = Unit {0}
+RefusalKeeps (Err f) before after = after ≡ before

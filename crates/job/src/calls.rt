@@ -9,8 +9,5 @@ pub enum Call {
     Allow(u32),
 }
 
-#[derive(Clone, Copy)]
-pub enum Answer {
-    Done,
-    Refused(DoFault),
-}
+// Done, or why it is refused.
+pub type Answer = Result<(), DoFault>;

@@ -2,7 +2,7 @@
 ghost use Rattle.std.specs.Prelude.{◌≡◌, ◌<◌, OnOk};
 ghost use Rattle.sheet.specs.Reading.{tree};
 ghost use Rattle.job.specs.declared.calls.Call.TheVariants.{Do, Strike, Allow};
-ghost use Rattle.job.specs.Answers.{answer_to_do, answer_to_mark, marking};
+ghost use Rattle.job.specs.Answers.{answer_to_mark, marking};
 ghost use Rattle.job.specs.Attempts.{Attempted};
 ghost use Rattle.job.specs.Moments.{opening, Promised};
 ghost use Rattle.job.specs.Records.{ledger, RefusalKeeps};
@@ -42,8 +42,8 @@ impl Job {
 
     // Does an allowed step and puts it on the trail.
     pub fn do_step(&mut self, sheet: &Sheet<'_>, step: u32) -> Result<(), DoFault>
-        ensures promised { Promised (tree sheet.now) (ledger self.old) (Do step) (answer_to_do result) (ledger self.new) }
-        ensures kept { RefusalKeeps (answer_to_do result) self.old self.new }
+        ensures promised { Promised (tree sheet.now) (ledger self.old) (Do step) result (ledger self.new) }
+        ensures kept { RefusalKeeps result self.old self.new }
     {
         let next = self.attempt(sheet, step)?;
         if self.trail.is_full() {

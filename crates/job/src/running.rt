@@ -1,33 +1,13 @@
 // A list of calls, run one after the other.
 ghost use Rattle.std.specs.Prelude.{◌≡◌, MatchResult};
 ghost use Rattle.sheet.specs.Reading.{tree};
-ghost use Rattle.job.specs.Answers.{answer_to_do, answer_to_mark};
 ghost use Rattle.job.specs.Moments.{Promised, PromisedList};
 ghost use Rattle.job.specs.Records.{ledger, RefusalKeeps};
 
 use crate::calls::{Answer, Call};
-use crate::faults::{DoFault, StepFault};
 use crate::jobs::Job;
 use sheet::Sheet;
 use std::alloc::{AllocError, Global};
-
-fn answer_to_do(res: Result<(), DoFault>) -> Answer
-    ensures { result ≡ answer_to_do res }
-{
-    match res {
-        Ok(()) => Answer::Done,
-        Err(fault) => Answer::Refused(fault),
-    }
-}
-
-fn answer_to_mark(res: Result<(), StepFault>) -> Answer
-    ensures { result ≡ answer_to_mark res }
-{
-    match res {
-        Ok(()) => Answer::Done,
-        Err(fault) => Answer::Refused(DoFault::Step(fault)),
-    }
-}
 
 impl Job {
     // Makes one call and tells what it is answered.
@@ -36,9 +16,9 @@ impl Job {
         ensures kept { RefusalKeeps result self.old self.new }
     {
         match call {
-            Call::Do(step) => answer_to_do(self.do_step(sheet, step)),
-            Call::Strike(step) => answer_to_mark(self.strike(sheet, step)),
-            Call::Allow(step) => answer_to_mark(self.allow(sheet, step)),
+            Call::Do(step) => self.do_step(sheet, step),
+            Call::Strike(step) => Ok(self.strike(sheet, step)?),
+            Call::Allow(step) => Ok(self.allow(sheet, step)?),
         }
     }
 
