@@ -113,7 +113,7 @@ mod tests {
         match job.check(&sheet, &HardSteps, 0, &[1, 2]) {
             Ok(_) => Err(Fail::new("the route is accepted")),
             Err(CheckFault::Route { fault, position }) => {
-                assert_eq!(rt; fault.number(), 11);
+                assert_eq!(rt; u8::from(fault), 11);
                 assert_eq!(rt; position, 1);
                 Ok(())
             }

@@ -2,7 +2,7 @@
 use crate::faults::DoFault;
 
 // The number is the step's, any number at all.
-#[derive(Clone, Copy)]
+#[derive(Clone, Copy, Debug, PartialEq, Eq)]
 pub enum Call {
     Do(u32),
     Strike(u32),

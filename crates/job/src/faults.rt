@@ -6,7 +6,7 @@ ghost use Rattle.job.specs.declared.faults.DoFault.TheVariants.{Step};
 use execution::ExecutionFault;
 
 // Why a step may not be done in its turn.
-#[derive(Clone, Copy)]
+#[derive(Clone, Copy, Debug, PartialEq, Eq)]
 pub enum StepFault {
     NoSuchStep,
     Struck,
@@ -14,7 +14,7 @@ pub enum StepFault {
     SetAndCleared,
 }
 
-#[derive(Clone, Copy)]
+#[derive(Clone, Copy, Debug, PartialEq, Eq)]
 pub enum DoFault {
     Step(StepFault),
     TrailFull,
@@ -40,11 +40,11 @@ impl From<StepFault> for DoFault {
     }
 }
 
-impl StepFault {
-    pub fn number(self) -> u8
-        ensures { result ≡ step_number self }
-    {
-        match self {
+impl From<StepFault> for u8 {
+    ghost from_gives = { λ f n. n ≡ step_number f };
+
+    fn from(fault: StepFault) -> u8 {
+        match fault {
             StepFault::NoSuchStep => 8,
             StepFault::Struck => 10,
             StepFault::ConditionFalse => 11,
@@ -53,12 +53,12 @@ impl StepFault {
     }
 }
 
-impl DoFault {
-    pub fn number(self) -> u8
-        ensures { result ≡ number self }
-    {
-        match self {
-            DoFault::Step(fault) => fault.number(),
+impl From<DoFault> for u8 {
+    ghost from_gives = { λ f n. n ≡ number f };
+
+    fn from(fault: DoFault) -> u8 {
+        match fault {
+            DoFault::Step(fault) => fault.into(),
             DoFault::TrailFull => 13,
         }
     }

@@ -5,14 +5,14 @@ ghost use Rattle.job.specs.declared.routes.RouteFault.TheVariants.{Step};
 
 use crate::faults::StepFault;
 
-#[derive(Clone, Copy)]
+#[derive(Clone, Copy, Debug, PartialEq, Eq)]
 pub enum RouteFault {
     Step(StepFault),
     GoalFalse,
 }
 
 // A route's fault comes with its position: the place of the step from 0, or the route's length.
-#[derive(Clone, Copy)]
+#[derive(Clone, Copy, Debug, PartialEq, Eq)]
 pub enum CheckFault {
     NoSuchGoal,
     Route { fault: RouteFault, position: usize },
@@ -26,24 +26,24 @@ impl From<StepFault> for RouteFault {
     }
 }
 
-impl RouteFault {
-    pub fn number(self) -> u8
-        ensures { result ≡ route_number self }
-    {
-        match self {
-            RouteFault::Step(fault) => fault.number(),
+impl From<RouteFault> for u8 {
+    ghost from_gives = { λ f n. n ≡ route_number f };
+
+    fn from(fault: RouteFault) -> u8 {
+        match fault {
+            RouteFault::Step(fault) => fault.into(),
             RouteFault::GoalFalse => 15,
         }
     }
 }
 
-impl CheckFault {
-    pub fn number(self) -> u8
-        ensures { result ≡ check_number self }
-    {
-        match self {
+impl From<CheckFault> for u8 {
+    ghost from_gives = { λ f n. n ≡ check_number f };
+
+    fn from(fault: CheckFault) -> u8 {
+        match fault {
             CheckFault::NoSuchGoal => 9,
-            CheckFault::Route { fault, .. } => fault.number(),
+            CheckFault::Route { fault, .. } => fault.into(),
         }
     }
 }
