@@ -1,27 +1,15 @@
 -- What a check promises, from what became of its route.
-use Rattle.std.proofs.Common.{◌≡◌, ℕ, List, Ok, Err, refl}
+use Rattle.std.proofs.Common.{ℕ, List, Err}
 use Rattle.std.proofs.lemmas.Bool.{false≢true}
 use Rattle.sheet.specs.Trees.{Tree}
-use Rattle.weights.specs.Algebra.{Algebra, SomeWeight}
-use Rattle.weights.specs.Routes.{route_weight}
+use Rattle.weights.specs.Algebra.{Algebra}
 use Rattle.job.specs.declared.routes.CheckFault.{CheckFault}
 use Rattle.job.specs.Checking.{PromisedCheck}
 use Rattle.job.specs.Ledger.{Ledger}
-use Rattle.job.specs.Routes.{Reaches, Unreached}
+use Rattle.job.specs.Routes.{Unreached}
 use Rattle.job.proofs.RouteEnds.{reached_or_not, unreached_once}
 
 module _ {W : Type 0} (a : Algebra W) (t : Tree) (l : Ledger) (goal : ℕ) (ks : List ℕ) where
-  pub check_accepted : (w : W) → Reaches t l goal ks → w ≡ route_weight a t ks → SomeWeight a w → PromisedCheck a t l goal ks (Ok w)
-  check_accepted w reaches weighs some =
-      record {
-        accepted_only_where_the_route_reaches_the_goal = λ _. reaches;
-        accepted_wherever_the_route_reaches_the_goal = λ _. refl;
-        weight_is_the_route's = weighs;
-        weight_is_one_of_the_kind_and_not_none = some;
-        refused_for_the_first_cause = tt;
-        refused_for_no_other_cause = tt;
-      }
-
   pub check_refused : (f : CheckFault) → Unreached t l goal ks f → PromisedCheck a t l goal ks (Err f)
   check_refused f unreached =
       record {

@@ -1,88 +1,86 @@
 -- A route that is walked step by step.
-use Rattle.std.proofs.Common.{◌≡◌, ℕ, ◌+◌, ◌<◌, ◌≤◌, Bool, false, List, [], ◌∷◌, ◌++◌, length, get_or, take, Some, None, Option, unwrap_or, sym, refl, ap, ◌∙◌, subst, ap₂, ⊎_elim, arith}
-use Rattle.std.proofs.lemmas.List.{take_more, take_all}
-use Rattle.std.proofs.lemmas.Bool.{both_ways}
+use Rattle.std.proofs.Common.{◌≡◌, ℕ, ◌+◌, ◌<◌, Bool, false, List, [], ◌∷◌, ◌++◌, length, get_or, take, Some, None, Option, unwrap_or, Ok, Err, Result, MatchResult, IsErrAnd, sym, ◌∙◌, ap₂, ⊎_elim, arith}
+use Rattle.std.proofs.lemmas.List.{take_more}
+use Rattle.std.proofs.lemmas.Result.{err_from_is_err_and}
 use Rattle.sheet.specs.Lawful.{Each}
-use Rattle.sheet.specs.Trees.{Tree, step_at, goal_at}
+use Rattle.sheet.specs.Trees.{Tree}
 use Rattle.execution.specs.Executed.{Valued}
-use Rattle.execution.specs.Execution.{Executes, Leads, successor}
-use Rattle.execution.specs.Truth.{truth}
+use Rattle.execution.specs.State.{holds}
 use Rattle.weights.specs.Algebra.{Algebra, SomeWeight}
 use Rattle.weights.specs.Laws.{Laws}
-use Rattle.weights.specs.Routes.{step_weight, route_weight}
 use Rattle.weights.proofs.Routes.{weight_after_append}
-use Rattle.job.specs.Ledger.{Ledger, Ready}
+use Rattle.job.specs.declared.checking.Tried.{Tried}
+use Rattle.job.specs.declared.faults.StepFault.{StepFault}
+use Rattle.job.specs.declared.routes.CheckFault.{CheckFault}
+use Rattle.job.specs.declared.routes.CheckFault.TheVariants.{Route}
+use Rattle.job.specs.declared.routes.RouteFault.{RouteFault}
+use Rattle.job.specs.declared.routes.RouteFault.TheVariants.{Step, GoalFalse}
+use Rattle.job.specs.Checking.{TriedStep, Walks}
+use Rattle.job.specs.Ledger.{Ledger, Hindered}
+use Rattle.job.specs.Routes.{Arrives, Unreached}
 use Rattle.job.specs.Tries.{in_state}
-use Rattle.job.specs.Routes.{Arrives}
 use Rattle.job.proofs.Days.{executes_more}
 
 each_append : {X : Type 0} (P : X → Type 0) (xs ys : List X) → Each P xs → Each P ys → Each P (xs ++ ys)
 each_append P [] ys h k = k
 each_append P (x ∷ xs) ys h k = (h.0, each_append P xs ys h.1 k)
 
--- the steps before place i lead to a state, and weigh so much
-pub record WalkedTo {W : Type 0} (a : Algebra W) (t : Tree) (l : Ledger) (ks : List ℕ) (i : ℕ) (here : ℕ → Bool) (w : W) : Type 0 where
-  pub leads_here : Leads t l.struck l.state (take i ks) here
-  pub weighs : w ≡ route_weight a t (take i ks)
-  pub some : SomeWeight a w
-
 module _ {W : Type 0} (a : Algebra W) (laws : Laws a) where
-  zero_is_some : SomeWeight a a.zero
-  zero_is_some = (
-    laws.zero_is_a_weight,
-    λ same. both_ways _ (laws.nothing_is_less_than_itself a.zero laws.zero_is_a_weight) (ap (a.less a.zero) same ∙ laws.zero_is_less_than_none),
-  )
-
   then_is_some : (w v : W) → SomeWeight a w → SomeWeight a v → SomeWeight a (a.then w v)
   then_is_some w v x y =
       (laws.then_is_a_weight w v x.0 y.0, λ same. ⊎_elim x.1 y.1 (laws.then_none_from_none w v x.0 y.0 same))
 
-  module _ (t : Tree) (l : Ledger) (ks : List ℕ) where
-    pub walked_none : WalkedTo a t l ks 0 l.state a.zero
-    walked_none = record { leads_here = record { steps_are_allowed = tt; steps_execute = refl }; weighs = refl; some = zero_is_some }
+  walks_more : (t : Tree) (l : Ledger) (ks : List ℕ) (k : ℕ) (here : ℕ → Bool) (w : W) (x : Tried W) → Walks a t l ks here w → TriedStep a t l here k (Ok x) →
+      Walks a t l (ks ++ k ∷ []) (holds x.state) (a.then w x.weight)
+  walks_more t l ks k here w x so_far step =
+      let ready = step.0.0 in
+      let led = so_far.leads_there in
+      record {
+        leads_there =
+            record {
+              steps_are_allowed = each_append (λ (j : ℕ). l.struck j ≡ false) ks (k ∷ []) led.steps_are_allowed (ready.allowed, tt);
+              steps_execute = executes_more t l.state ks here k (holds x.state) led.steps_execute ready.on_the_sheet ready.executable step.0.1;
+            };
+        weighs = ap₂ a.then so_far.weighs step.1 ∙ sym (weight_after_append a t a.zero ks (k ∷ []));
+        some = then_is_some w x.weight so_far.some step.2;
+      }
 
-    pub walked_more : (i : ℕ) (here next : ℕ → Bool) (w v : W) → i < length ks → WalkedTo a t l ks i here w →
-        Ready t (in_state l here) (get_or ks i 0) → next ≡ successor here (step_at t (get_or ks i 0)).effect →
-        v ≡ step_weight a (step_at t (get_or ks i 0)) → SomeWeight a v → WalkedTo a t l ks (i + 1) next (a.then w v)
-    walked_more i here next w v within so_far ready follows weighs some =
-        let k = get_or ks i 0 in
-        let more : take (i + 1) ks ≡ take i ks ++ k ∷ [] = take_more ks i 0 within in
-        let led = so_far.leads_here in
-        record {
-          leads_here =
-              record {
-                steps_are_allowed =
-                    subst (Each (λ (j : ℕ). l.struck j ≡ false)) (sym more)
-                    (each_append (λ (j : ℕ). l.struck j ≡ false) (take i ks) (k ∷ []) led.steps_are_allowed (ready.allowed, tt));
-                steps_execute =
-                    subst (λ (js : List ℕ). Executes t l.state js next) (sym more)
-                    (executes_more t l.state (take i ks) here k next led.steps_execute ready.on_the_sheet ready.executable follows);
-              };
-          weighs =
-              ap₂ a.then so_far.weighs weighs
-              ∙ sym (weight_after_append a t a.zero (take i ks) (k ∷ []))
-              ∙ ap (route_weight a t) (sym more);
-          some = then_is_some w v so_far.some some;
-        }
+-- a step tried at a place: its fault comes with the place
+abbrev TriedAt : {W : Type 0} → Algebra W → Tree → Ledger → (ℕ → Bool) → ℕ → ℕ → Result (Tried W) CheckFault → Type 0
+TriedAt a t l s k i (Ok r) = TriedStep a t l s k (Ok r)
+TriedAt a t l s k i (Err d) = (f : StepFault) × (d ≡ Route (Step f) i) × Hindered t (in_state l s) k f
 
-    -- at the end of the route, where the goal is told true or false
-    module _ (goal i : ℕ) (here : ℕ → Bool) (w : W) (past : length ks ≤ i) (so_far : WalkedTo a t l ks i here w) where
-      all : take i ks ≡ ks
-      all = take_all i ks past
+tried_at : {W : Type 0} (a : Algebra W) (t : Tree) (l : Ledger) (s : ℕ → Bool) (k i : ℕ) (r : Result (Tried W) RouteFault) (m : Result (Tried W) CheckFault)
+    (Told : RouteFault → CheckFault → Type 0) → TriedStep a t l s k r → MatchResult r (λ x. m ≡ Ok x) (λ f. IsErrAnd m (Told f)) →
+    ((f : RouteFault) (d : CheckFault) → Told f d → d ≡ Route f i) → TriedAt a t l s k i m
+tried_at a t l s k i (Ok r) m Told tried cases told = rw cases tried
+tried_at a t l s k i (Err (Step f)) m Told tried cases told =
+    let p = err_from_is_err_and m cases in
+    rw p.1 (f, told (Step f) p.0 p.2, tried)
+tried_at a t l s k i (Err GoalFalse) m Told tried cases told = absurd tried
 
-      pub arrives : (value : Bool) → goal < length t.goals → truth here (goal_at t goal) ≡ value → Arrives t l goal ks value
-      arrives value on is =
-          record {
-            goal_is_on_the_sheet = on;
-            last = here;
-            route_leads_there = subst (λ (js : List ℕ). Leads t l.struck l.state js here) all so_far.leads_here;
-            goal_value_there = is;
-          }
+module _ {W : Type 0} {a : Algebra W} {t : Tree} {l : Ledger} {here : ℕ → Bool} {w : W} (ks : List ℕ) (i : ℕ) (so_far : Walks a t l (take i ks) here w)
+    (within : i < length ks) (r : Result (Tried W) RouteFault) (m : Result (Tried W) CheckFault) (Told : RouteFault → CheckFault → Type 0)
+    (tried : TriedStep a t l here (get_or ks i 0) r) (cases : MatchResult r (λ x. m ≡ Ok x) (λ f. IsErrAnd m (Told f)))
+    (told : (f : RouteFault) (d : CheckFault) → Told f d → d ≡ Route f i) where
+  at_place : TriedAt a t l here (get_or ks i 0) i m
+  at_place = tried_at a t l here (get_or ks i 0) i r m Told tried cases told
 
-      pub weighs_all : w ≡ route_weight a t ks
-      weighs_all = so_far.weighs ∙ ap (route_weight a t) all
+  pub walks_on : Laws a → (x : Tried W) → m ≡ Ok x → Walks a t l (take (i + 1) ks) (holds x.state) (a.then w x.weight)
+  walks_on laws x is =
+      rw (take_more ks i 0 within) (walks_more a laws t l (take i ks) (get_or ks i 0) here w x so_far (rw is at at_place))
 
--- a goal that is on the sheet is told
-pub told_of : (t : Tree) (s : ℕ → Bool) (goal : ℕ) (r : Option Bool) → Valued t s goal r → goal < length t.goals → unwrap_or r false ≡ truth s (goal_at t goal)
-told_of t s goal None h on = absurd (omega arith)
-told_of t s goal (Some b) h on = h.1
+  pub halts_here : (d : CheckFault) → m ≡ Err d → (goal : ℕ) → goal < length t.goals → Unreached t l goal ks d
+  halts_here d is goal on =
+      let step = rw is at at_place in
+      rw step.1 (
+        on,
+        record { within_the_route = within; here = here; steps_before_lead_here = so_far.leads_there; step_is_hindered_here = step.2 },
+      )
+
+-- a route whose steps are executed, and what its goal is told to be at the end
+pub arrives : {W : Type 0} {a : Algebra W} {t : Tree} {l : Ledger} {ks : List ℕ} {last : ℕ → Bool} {w : W} (goal : ℕ) (value : Bool) (r : Option Bool) →
+    Walks a t l ks last w → goal < length t.goals → Valued t last goal r → value ≡ unwrap_or r false → Arrives t l goal ks value
+arrives goal value None walked on h is = absurd (omega arith)
+arrives {last = last} goal value (Some b) walked on h is =
+    record { goal_is_on_the_sheet = on; last = last; route_leads_there = walked.leads_there; goal_value_there = sym (is ∙ h.1) }

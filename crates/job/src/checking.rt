@@ -12,7 +12,7 @@ use execution::State;
 use sheet::Sheet;
 use weights::WeightKind;
 
-// The state that a step leads to, and what the step weighs.
+// The state that a step or a route leads to, and what it weighs.
 #[derive(Clone, Copy)]
 struct Tried<W> {
     state: State,
@@ -26,48 +26,38 @@ impl Job {
         kind: &K,
         before: State,
         step: u32,
-    ) -> Result<Tried<K::Weight>, StepFault>
+    ) -> Result<Tried<K::Weight>, RouteFault>
         ensures { TriedStep (K.algebra kind.now) (tree sheet.now) (ledger self.now) (holds before) step result }
     {
-        let Some(work) = sheet.work(step) else {
-            return Err(StepFault::NoSuchStep);
-        };
+        let work = sheet.work(step).ok_or(StepFault::NoSuchStep)?;
         let there = Job {
             state: before,
-            strikes: self.strikes,
-            trail: self.trail,
+            ..*self
         };
         let state = there.attempt(sheet, step)?;
         let weight = kind.step(work.minutes, work.grade);
         Ok(Tried { state, weight })
     }
 
-    // Executes a route to a goal of the sheet; the position goes along, to a step that is refused or to the route's end.
+    // Executes a route's steps in turn, up to the first that is refused.
     fn walk<K: WeightKind>(
         &self,
         sheet: &Sheet<'_>,
         kind: &K,
-        goal: u32,
         route: &[u8],
-        position: &mut usize,
-    ) -> Result<K::Weight, RouteFault>
-        requires goal_there { goal < length (tree sheet.now).goals }
-        requires at_the_start { position.old ≡ 0 }
-        ensures { Walked (K.algebra kind.now) (tree sheet.now) (ledger self.now) goal route.now position.new result }
+    ) -> Result<Tried<K::Weight>, CheckFault>
+        ensures { Walked (K.algebra kind.now) (tree sheet.now) (ledger self.now) route.now result }
     {
         let mut state = self.state;
         let mut weight = kind.zero();
-        for step in route {
-            let tried = self.try_step(sheet, kind, state, *step as u32)?;
+        for (position, step) in route.iter().enumerate() {
+            let tried = self
+                .try_step(sheet, kind, state, u32::from(*step))
+                .map_err(|fault| fault.at(position))?;
             state = tried.state;
             weight = kind.then(weight, tried.weight);
-            *position += 1;
         }
-        if execution::satisfied(sheet, goal, state).unwrap_or(false) {
-            Ok(weight)
-        } else {
-            Err(RouteFault::GoalFalse)
-        }
+        Ok(Tried { state, weight })
     }
 
     // What a route weighs that leads to a goal from here, by the steps that are allowed; nothing is done.
@@ -83,10 +73,11 @@ impl Job {
         if goal >= sheet.goals() {
             return Err(CheckFault::NoSuchGoal);
         }
-        let mut position = 0;
-        match self.walk(sheet, kind, goal, route, &mut position) {
-            Ok(weight) => Ok(weight),
-            Err(fault) => Err(CheckFault::Route { fault, position }),
+        let end = self.walk(sheet, kind, route)?;
+        if execution::satisfied(sheet, goal, end.state).unwrap_or(false) {
+            Ok(end.weight)
+        } else {
+            Err(RouteFault::GoalFalse.at(route.len()))
         }
     }
 }

@@ -1,6 +1,7 @@
 // Why a route is refused.
 ghost use Rattle.std.specs.Prelude.{◌≡◌};
 ghost use Rattle.job.specs.Numbers.{route_number, check_number};
+ghost use Rattle.job.specs.declared.routes.CheckFault.TheVariants.{Route};
 ghost use Rattle.job.specs.declared.routes.RouteFault.TheVariants.{Step};
 
 use crate::faults::StepFault;
@@ -23,6 +24,17 @@ impl From<StepFault> for RouteFault {
 
     fn from(fault: StepFault) -> RouteFault {
         RouteFault::Step(fault)
+    }
+}
+
+impl RouteFault {
+    pub(crate) fn at(self, position: usize) -> CheckFault
+        ensures { result ≡ Route self position }
+    {
+        CheckFault::Route {
+            fault: self,
+            position,
+        }
     }
 }
 

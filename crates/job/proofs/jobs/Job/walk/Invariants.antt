@@ -1,11 +1,10 @@
-use Rattle.std.proofs.Common.{◌≡◌}
+use Rattle.std.proofs.Common.{take}
 use Rattle.execution.specs.State.{holds}
 use Rattle.sheet.specs.Reading.{tree}
+use Rattle.job.specs.Checking.{Walks}
 use Rattle.job.specs.Records.{ledger}
-use Rattle.job.proofs.Walking.{WalkedTo}
 use Rattle.job.proofs.jobs.Job.walk.Given as goal
 
-abbrev pub invariant-loop-step : goal.invariant-loop-step
-invariant-loop-step g l =
-    (l.position ≡ l.step-index)
-    × WalkedTo (g.K.WeightKind.algebra l.kind) (tree l.sheet) (ledger l.self) l.route l.step-index (holds l.state) l.weight
+abbrev pub invariant-loop-position : goal.invariant-loop-position
+invariant-loop-position g l =
+    Walks (g.K.WeightKind.algebra l.kind) (tree l.sheet) (ledger l.self) (take l.position-counter l.route) (holds l.state) l.weight
