@@ -7,3 +7,4 @@ pub mod Tries
 pub mod Routes
 pub mod Checking
 pub mod Records
+pub mod Promises

@@ -4,8 +4,9 @@ ghost use Rattle.sheet.specs.Reading.{tree};
 ghost use Rattle.job.specs.declared.calls.Call.TheVariants.{Do, Strike, Allow};
 ghost use Rattle.job.specs.Answers.{answer_to_mark, marking};
 ghost use Rattle.job.specs.Attempts.{Attempted};
-ghost use Rattle.job.specs.Moments.{opening, Promised};
-ghost use Rattle.job.specs.Records.{ledger, RefusalKeeps};
+ghost use Rattle.job.specs.Moments.{opening};
+ghost use Rattle.job.specs.Promises.{PromisedCall};
+ghost use Rattle.job.specs.Records.{ledger};
 
 use crate::faults::{DoFault, StepFault};
 use crate::jobs::Job;
@@ -42,8 +43,7 @@ impl Job {
 
     // Does an allowed step and puts it on the trail.
     pub fn do_step(&mut self, sheet: &Sheet<'_>, step: u32) -> Result<(), DoFault>
-        ensures promised { Promised (tree sheet.now) (ledger self.old) (Do step) result (ledger self.new) }
-        ensures kept { RefusalKeeps result self.old self.new }
+        ensures { PromisedCall sheet.now self.old (Do step) result self.new }
     {
         let next = self.attempt(sheet, step)?;
         if self.trail.is_full() {
@@ -56,8 +56,7 @@ impl Job {
 
     // Marks a step of the sheet struck or allowed, also where it is so already.
     fn mark(&mut self, sheet: &Sheet<'_>, step: u32, struck: bool) -> Result<(), StepFault>
-        ensures promised { Promised (tree sheet.now) (ledger self.old) (marking struck step) (answer_to_mark result) (ledger self.new) }
-        ensures kept { RefusalKeeps (answer_to_mark result) self.old self.new }
+        ensures { PromisedCall sheet.now self.old (marking struck step) (answer_to_mark result) self.new }
     {
         if step >= sheet.steps() {
             return Err(StepFault::NoSuchStep);
@@ -67,15 +66,13 @@ impl Job {
     }
 
     pub fn strike(&mut self, sheet: &Sheet<'_>, step: u32) -> Result<(), StepFault>
-        ensures promised { Promised (tree sheet.now) (ledger self.old) (Strike step) (answer_to_mark result) (ledger self.new) }
-        ensures kept { RefusalKeeps (answer_to_mark result) self.old self.new }
+        ensures { PromisedCall sheet.now self.old (Strike step) (answer_to_mark result) self.new }
     {
         self.mark(sheet, step, true)
     }
 
     pub fn allow(&mut self, sheet: &Sheet<'_>, step: u32) -> Result<(), StepFault>
-        ensures promised { Promised (tree sheet.now) (ledger self.old) (Allow step) (answer_to_mark result) (ledger self.new) }
-        ensures kept { RefusalKeeps (answer_to_mark result) self.old self.new }
+        ensures { PromisedCall sheet.now self.old (Allow step) (answer_to_mark result) self.new }
     {
         self.mark(sheet, step, false)
     }

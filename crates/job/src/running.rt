@@ -1,8 +1,9 @@
 // A list of calls, run one after the other.
 ghost use Rattle.std.specs.Prelude.{◌≡◌, MatchResult};
 ghost use Rattle.sheet.specs.Reading.{tree};
-ghost use Rattle.job.specs.Moments.{Promised, PromisedList};
-ghost use Rattle.job.specs.Records.{ledger, RefusalKeeps};
+ghost use Rattle.job.specs.Moments.{PromisedList};
+ghost use Rattle.job.specs.Promises.{PromisedCall};
+ghost use Rattle.job.specs.Records.{ledger};
 
 use crate::calls::{Answer, Call};
 use crate::jobs::Job;
@@ -12,8 +13,7 @@ use std::alloc::{AllocError, Global};
 impl Job {
     // Makes one call and tells what it is answered.
     pub fn answer(&mut self, sheet: &Sheet<'_>, call: Call) -> Answer
-        ensures promised { Promised (tree sheet.now) (ledger self.old) call result (ledger self.new) }
-        ensures kept { RefusalKeeps result self.old self.new }
+        ensures { PromisedCall sheet.now self.old call result self.new }
     {
         match call {
             Call::Do(step) => self.do_step(sheet, step),
