@@ -10,7 +10,6 @@ mod routes;
 mod running;
 mod strikes;
 mod trail;
-mod trails;
 
 pub use calls::{Answer, Call};
 pub use faults::{DoFault, StepFault};
