@@ -6,9 +6,6 @@ pub returns-then-step-steps : goal.returns-then-step-steps
 returns-then-step-steps c =
     record { promised = promised_unmarked _ _ _ c.args.struck (omega (arith, c.steps.ensures.counted)); kept = refl }
 
-pub marked-self-requires : goal.marked-self-requires
-marked-self-requires c = omega (arith, c.steps.ensures.few)
-
 pub returns : goal.returns
 returns c =
     record {
