@@ -50,12 +50,6 @@ module _ (t : Tree) where
   kept_after l (Allow k) (Ok u) m h kept = kept_same l m h.state_stays h.done_stay kept
   kept_after l (Allow k) (Err f) m h kept = subst Kept (sym h.1) kept
 
-  kept_along : (l : Ledger) (cs : List Call) (rs : List Answer) (m : Ledger) → Runs t l cs rs m → Kept l → Kept m
-  kept_along l [] [] m h kept = subst Kept (sym h) kept
-  kept_along l [] (a ∷ rs) m h kept = absurd h
-  kept_along l (c ∷ cs) [] m h kept = absurd h
-  kept_along l (c ∷ cs) (a ∷ rs) m h kept = kept_along h.0 cs rs m h.2 (kept_after l c a h.0 h.1 kept)
-
   done_after : (l : Ledger) (c : Call) (a : Answer) (m : Ledger) → Happens t l c a m → m.done ≡ l.done ++ accepted_one c a
   done_after l (Do k) (Ok u) m h = h.step_comes_last
   done_after l (Do k) (Err f) m h = ap (λ (x : Ledger). x.done) h.1 ∙ sym (append-nil l.done)
@@ -63,21 +57,6 @@ module _ (t : Tree) where
   done_after l (Strike k) (Err f) m h = ap (λ (x : Ledger). x.done) h.1 ∙ sym (append-nil l.done)
   done_after l (Allow k) (Ok u) m h = h.done_stay ∙ sym (append-nil l.done)
   done_after l (Allow k) (Err f) m h = ap (λ (x : Ledger). x.done) h.1 ∙ sym (append-nil l.done)
-
-  done_along : (l : Ledger) (cs : List Call) (rs : List Answer) (m : Ledger) → Runs t l cs rs m → m.done ≡ l.done ++ accepted cs rs
-  done_along l [] [] m h = ap (λ (x : Ledger). x.done) h ∙ sym (append-nil l.done)
-  done_along l [] (a ∷ rs) m h = absurd h
-  done_along l (c ∷ cs) [] m h = absurd h
-  done_along l (c ∷ cs) (a ∷ rs) m h =
-      done_along h.0 cs rs m h.2
-      ∙ ap (λ (ks : List ℕ). ks ++ accepted cs rs) (done_after l c a h.0 h.1)
-      ∙ append_assoc l.done (accepted_one c a) (accepted cs rs)
-
-  answered_along : (l : Ledger) (cs : List Call) (rs : List Answer) (m : Ledger) → Runs t l cs rs m → length rs ≡ length cs
-  answered_along l [] [] m h = refl
-  answered_along l [] (a ∷ rs) m h = absurd h
-  answered_along l (c ∷ cs) [] m h = absurd h
-  answered_along l (c ∷ cs) (a ∷ rs) m h = omega (arith, answered_along h.0 cs rs m h.2)
 
   module _ (k : ℕ) where
     marks_when : (j : ℕ) (mark b : Bool) → j < length t.steps → cond (eqb k j) mark b ≡ cond (ltb j (length t.steps) && eqb k j) mark b
@@ -94,22 +73,45 @@ module _ (t : Tree) where
     struck_after l (Allow j) (Ok u) m h = ap (λ (x : ℕ → Bool). x k) h.step_is_marked ∙ marks_when j false (l.struck k) h.on_the_sheet
     struck_after l (Allow j) (Err f) m h = ap (λ (x : Ledger). x.struck k) h.1 ∙ marks_not j false (l.struck k) (unmarked_past t j f h.0)
 
-    struck_along : (l : Ledger) (cs : List Call) (rs : List Answer) (m : Ledger) → Runs t l cs rs m → m.struck k ≡ marked t k (l.struck k) cs
-    struck_along l [] [] m h = ap (λ (x : Ledger). x.struck k) h
-    struck_along l [] (a ∷ rs) m h = absurd h
-    struck_along l (c ∷ cs) [] m h = absurd h
-    struck_along l (c ∷ cs) (a ∷ rs) m h =
-        struck_along h.0 cs rs m h.2 ∙ ap (λ (b : Bool). marked t k b cs) (struck_after l c a h.0 h.1)
+  -- what a list of calls makes of a ledger
+  record Along (l : Ledger) (cs : List Call) (rs : List Answer) (m : Ledger) : Type 0 where
+    answered : length rs ≡ length cs
+    kept : Kept l → Kept m
+    done : m.done ≡ l.done ++ accepted cs rs
+    struck : (k : ℕ) → m.struck k ≡ marked t k (l.struck k) cs
+
+  along : (l : Ledger) (cs : List Call) (rs : List Answer) (m : Ledger) → Runs t l cs rs m → Along l cs rs m
+  along l [] [] m h =
+      record {
+        answered = refl;
+        kept = subst Kept (sym h);
+        done = ap (λ (x : Ledger). x.done) h ∙ sym (append-nil l.done);
+        struck = λ k. ap (λ (x : Ledger). x.struck k) h;
+      }
+  along l [] (a ∷ rs) m h = absurd h
+  along l (c ∷ cs) [] m h = absurd h
+  along l (c ∷ cs) (a ∷ rs) m h =
+      let rest = along h.0 cs rs m h.2 in
+      record {
+        answered = omega (arith, rest.answered);
+        kept = λ before. rest.kept (kept_after l c a h.0 h.1 before);
+        done =
+            rest.done
+            ∙ ap (λ (ks : List ℕ). ks ++ accepted cs rs) (done_after l c a h.0 h.1)
+            ∙ append_assoc l.done (accepted_one c a) (accepted cs rs);
+        struck = λ k. rest.struck k ∙ ap (λ (b : Bool). marked t k b cs) (struck_after k l c a h.0 h.1);
+      }
 
   pub day_stands : (cs : List Call) (rs : List Answer) (l : Ledger) → Moment t cs rs l → DayStands t cs rs l
   day_stands cs rs l moment =
-      let kept = kept_along (opening t) cs rs l moment (record { made = refl; few = omega arith }) in
+      let day = along (opening t) cs rs l moment in
+      let kept = day.kept (record { made = refl; few = omega arith }) in
       record {
-        each_call_has_one_answer = answered_along (opening t) cs rs l moment;
+        each_call_has_one_answer = day.answered;
         state_is_what_the_steps_done_make_of_the_start = kept.made;
-        steps_done_are_those_accepted = done_along (opening t) cs rs l moment;
+        steps_done_are_those_accepted = day.done;
         at_most_two_hundred_are_done = kept.few;
-        last_mark_decides_what_is_struck = λ k. struck_along k (opening t) cs rs l moment;
+        last_mark_decides_what_is_struck = day.struck;
       }
 
   pub promised_list : (l : Ledger) (cs : List Call) (rs : List Answer) (m : Ledger) → Runs t l cs rs m → PromisedList t l cs rs m
