@@ -15,9 +15,9 @@ use Rattle.job.proofs.Runs.{runs_append, runs_decided}
 module _ (t : Tree) where
   -- one more step at the end of a row of steps
   pub executes_more : (s : ℕ → Bool) (ks : List ℕ) (mid : ℕ → Bool) (k : ℕ) (last : ℕ → Bool) → Executes t s ks mid →
-      k < length t.steps → Executable mid (step_at t k) → last ≡ successor mid (step_at t k).effect → Executes t s (ks ++ k ∷ []) last
-  executes_more s [] mid k last first on ready next =
-      (on, subst (λ (x : ℕ → Bool). Executable x (step_at t k)) first ready, next ∙ ap (λ (x : ℕ → Bool). successor x (step_at t k).effect) first)
+      k < length t.steps → Executable mid (step_at t k) → last ≡ successor mid (step_at t k).effect →
+      Executes t s (ks ++ k ∷ []) last
+  executes_more s [] mid k last first on ready next = (on, rw first at ready, rw first at next)
   executes_more s (j ∷ ks) mid k last first on ready next =
       (first.0, first.1, executes_more (successor s (step_at t j).effect) ks mid k last first.2 on ready next)
 
@@ -30,8 +30,9 @@ module _ (t : Tree) where
   kept_after_do l m k d kept =
       record {
         made =
-            subst (λ (ks : List ℕ). Executes t (start_of t) ks m.state) (sym d.step_comes_last)
-            (executes_more (start_of t) l.done l.state k m.state kept.made d.ready.on_the_sheet d.ready.executable d.state_follows);
+            let ready = d.ready in
+            rw d.step_comes_last
+            (executes_more (start_of t) l.done l.state k m.state kept.made ready.on_the_sheet ready.executable d.state_follows);
         few = omega (arith, ap length d.step_comes_last, length_push l.done k, d.room);
       }
 
@@ -50,7 +51,8 @@ module _ (t : Tree) where
   kept_after l (Allow k) (Ok u) m h kept = kept_same l m h.state_stays h.done_stay kept
   kept_after l (Allow k) (Err f) m h kept = subst Kept (sym h.1) kept
 
-  done_after : (l : Ledger) (c : Call) (a : Answer) (m : Ledger) → Happens t l c a m → m.done ≡ l.done ++ accepted_one c a
+  done_after : (l : Ledger) (c : Call) (a : Answer) (m : Ledger) → Happens t l c a m →
+      m.done ≡ l.done ++ accepted_one c a
   done_after l (Do k) (Ok u) m h = h.step_comes_last
   done_after l (Do k) (Err f) m h = ap (λ (x : Ledger). x.done) h.1 ∙ sym (append-nil l.done)
   done_after l (Strike k) (Ok u) m h = h.done_stay ∙ sym (append-nil l.done)
@@ -59,19 +61,25 @@ module _ (t : Tree) where
   done_after l (Allow k) (Err f) m h = ap (λ (x : Ledger). x.done) h.1 ∙ sym (append-nil l.done)
 
   module _ (k : ℕ) where
-    marks_when : (j : ℕ) (mark b : Bool) → j < length t.steps → cond (eqb k j) mark b ≡ cond (ltb j (length t.steps) && eqb k j) mark b
+    marks_when : (j : ℕ) (mark b : Bool) → j < length t.steps →
+        cond (eqb k j) mark b ≡ cond (ltb j (length t.steps) && eqb k j) mark b
     marks_when j mark b on = ap (λ (x : Bool). cond (x && eqb k j) mark b) (sym (lt-ltb j (length t.steps) on))
 
     marks_not : (j : ℕ) (mark b : Bool) → length t.steps ≤ j → b ≡ cond (ltb j (length t.steps) && eqb k j) mark b
     marks_not j mark b past = ap (λ (x : Bool). cond (x && eqb k j) mark b) (sym (le-ltb j (length t.steps) past))
 
-    struck_after : (l : Ledger) (c : Call) (a : Answer) (m : Ledger) → Happens t l c a m → m.struck k ≡ marked_one t k (l.struck k) c
+    struck_after : (l : Ledger) (c : Call) (a : Answer) (m : Ledger) → Happens t l c a m →
+        m.struck k ≡ marked_one t k (l.struck k) c
     struck_after l (Do j) (Ok u) m h = ap (λ (x : ℕ → Bool). x k) h.strikes_stay
     struck_after l (Do j) (Err f) m h = ap (λ (x : Ledger). x.struck k) h.1
-    struck_after l (Strike j) (Ok u) m h = ap (λ (x : ℕ → Bool). x k) h.step_is_marked ∙ marks_when j true (l.struck k) h.on_the_sheet
-    struck_after l (Strike j) (Err f) m h = ap (λ (x : Ledger). x.struck k) h.1 ∙ marks_not j true (l.struck k) (unmarked_past t j f h.0)
-    struck_after l (Allow j) (Ok u) m h = ap (λ (x : ℕ → Bool). x k) h.step_is_marked ∙ marks_when j false (l.struck k) h.on_the_sheet
-    struck_after l (Allow j) (Err f) m h = ap (λ (x : Ledger). x.struck k) h.1 ∙ marks_not j false (l.struck k) (unmarked_past t j f h.0)
+    struck_after l (Strike j) (Ok u) m h =
+        ap (λ (x : ℕ → Bool). x k) h.step_is_marked ∙ marks_when j true (l.struck k) h.on_the_sheet
+    struck_after l (Strike j) (Err f) m h =
+        ap (λ (x : Ledger). x.struck k) h.1 ∙ marks_not j true (l.struck k) (unmarked_past t j f h.0)
+    struck_after l (Allow j) (Ok u) m h =
+        ap (λ (x : ℕ → Bool). x k) h.step_is_marked ∙ marks_when j false (l.struck k) h.on_the_sheet
+    struck_after l (Allow j) (Err f) m h =
+        ap (λ (x : Ledger). x.struck k) h.1 ∙ marks_not j false (l.struck k) (unmarked_past t j f h.0)
 
   -- what a list of calls makes of a ledger
   record Along (l : Ledger) (cs : List Call) (rs : List Answer) (m : Ledger) : Type 0 where
@@ -114,11 +122,13 @@ module _ (t : Tree) where
         last_mark_decides_what_is_struck = day.struck;
       }
 
-  pub promised_list : (l : Ledger) (cs : List Call) (rs : List Answer) (m : Ledger) → Runs t l cs rs m → PromisedList t l cs rs m
+  pub promised_list : (l : Ledger) (cs : List Call) (rs : List Answer) (m : Ledger) → Runs t l cs rs m →
+      PromisedList t l cs rs m
   promised_list l cs rs m h =
       record {
         answered_call_by_call = h;
         no_other_answers = λ qs k other. runs_decided t l m k cs rs qs h other;
         leads_to_the_moment_after_the_list = λ ds qs moment. runs_append t (opening t) l m ds cs qs rs moment h;
-        day_stands_after_the_list = λ ds qs moment. day_stands (ds ++ cs) (qs ++ rs) m (runs_append t (opening t) l m ds cs qs rs moment h);
+        day_stands_after_the_list =
+            λ ds qs moment. day_stands (ds ++ cs) (qs ++ rs) m (runs_append t (opening t) l m ds cs qs rs moment h);
       }

@@ -37,7 +37,10 @@ module _ (t : Tree) (l : Ledger) (k : ℕ) where
 
   same_done : (m n : Ledger) → Does t l k m → Does t l k n → n ≡ m
   same_done m n x y =
-      same_ledger n m (y.state_follows ∙ sym x.state_follows) (y.strikes_stay ∙ sym x.strikes_stay) (y.step_comes_last ∙ sym x.step_comes_last)
+      same_ledger n m
+      (y.state_follows ∙ sym x.state_follows)
+      (y.strikes_stay ∙ sym x.strikes_stay)
+      (y.step_comes_last ∙ sym x.step_comes_last)
 
   marked_or_unmarked : (mark : Bool) (m : Ledger) (f : DoFault) → Marks t l k mark m → Unmarked t k f → ⊥
   marked_or_unmarked mark m f x y = omega (arith, x.on_the_sheet, unmarked_past t k f y)
@@ -47,9 +50,13 @@ module _ (t : Tree) (l : Ledger) (k : ℕ) where
 
   same_mark : (mark : Bool) (m n : Ledger) → Marks t l k mark m → Marks t l k mark n → n ≡ m
   same_mark mark m n x y =
-      same_ledger n m (y.state_stays ∙ sym x.state_stays) (y.step_is_marked ∙ sym x.step_is_marked) (y.done_stay ∙ sym x.done_stay)
+      same_ledger n m
+      (y.state_stays ∙ sym x.state_stays)
+      (y.step_is_marked ∙ sym x.step_is_marked)
+      (y.done_stay ∙ sym x.done_stay)
 
-pub decided : (t : Tree) (l : Ledger) (c : Call) (a b : Answer) (m n : Ledger) → Happens t l c a m → Happens t l c b n → (b ≡ a) × (n ≡ m)
+pub decided : (t : Tree) (l : Ledger) (c : Call) (a b : Answer) (m n : Ledger) → Happens t l c a m → Happens t l c b n →
+    (b ≡ a) × (n ≡ m)
 decided t l (Do k) (Ok u) (Ok v) m n x y = (refl, same_done t l k m n x y)
 decided t l (Do k) (Ok u) (Err g) m n x y = absurd (done_or_undone t l k m g x y.0)
 decided t l (Do k) (Err f) (Ok v) m n x y = absurd (done_or_undone t l k n f y x.0)

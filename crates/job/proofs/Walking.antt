@@ -30,16 +30,20 @@ module _ {W : Type 0} (a : Algebra W) (laws : Laws a) where
   then_is_some w v x y =
       (laws.then_is_a_weight w v x.0 y.0, λ same. ⊎_elim x.1 y.1 (laws.then_none_from_none w v x.0 y.0 same))
 
-  walks_more : (t : Tree) (l : Ledger) (ks : List ℕ) (k : ℕ) (here : ℕ → Bool) (w : W) (x : Tried W) → Walks a t l ks here w → TriedStep a t l here k (Ok x) →
+  walks_more : (t : Tree) (l : Ledger) (ks : List ℕ) (k : ℕ) (here : ℕ → Bool) (w : W) (x : Tried W) →
+      Walks a t l ks here w → TriedStep a t l here k (Ok x) →
       Walks a t l (ks ++ k ∷ []) (holds x.state) (a.then w x.weight)
   walks_more t l ks k here w x so_far step =
       let ready = step.0.0 in
       let led = so_far.leads_there in
+      let next = holds x.state in
       record {
         leads_there =
             record {
-              steps_are_allowed = each_append (λ (j : ℕ). l.struck j ≡ false) ks (k ∷ []) led.steps_are_allowed (ready.allowed, tt);
-              steps_execute = executes_more t l.state ks here k (holds x.state) led.steps_execute ready.on_the_sheet ready.executable step.0.1;
+              steps_are_allowed =
+                  each_append (λ (j : ℕ). l.struck j ≡ false) ks (k ∷ []) led.steps_are_allowed (ready.allowed, tt);
+              steps_execute =
+                  executes_more t l.state ks here k next led.steps_execute ready.on_the_sheet ready.executable step.0.1;
             };
         weighs = ap₂ a.then so_far.weighs step.1 ∙ sym (weight_after_append a t a.zero ks (k ∷ []));
         some = then_is_some w x.weight so_far.some step.2;
@@ -50,8 +54,10 @@ abbrev TriedAt : {W : Type 0} → Algebra W → Tree → Ledger → (ℕ → Boo
 TriedAt a t l s k i (Ok r) = TriedStep a t l s k (Ok r)
 TriedAt a t l s k i (Err d) = (f : StepFault) × (d ≡ Route (Step f) i) × Hindered t (in_state l s) k f
 
-tried_at : {W : Type 0} (a : Algebra W) (t : Tree) (l : Ledger) (s : ℕ → Bool) (k i : ℕ) (r : Result (Tried W) RouteFault) (m : Result (Tried W) CheckFault)
-    (Told : RouteFault → CheckFault → Type 0) → TriedStep a t l s k r → MatchResult r (λ x. m ≡ Ok x) (λ f. IsErrAnd m (Told f)) →
+-- the place goes along by `map_err`, whose closure is known by what it tells
+tried_at : {W : Type 0} (a : Algebra W) (t : Tree) (l : Ledger) (s : ℕ → Bool) (k i : ℕ)
+    (r : Result (Tried W) RouteFault) (m : Result (Tried W) CheckFault) (Told : RouteFault → CheckFault → Type 0) →
+    TriedStep a t l s k r → MatchResult r (λ x. m ≡ Ok x) (λ f. IsErrAnd m (Told f)) →
     ((f : RouteFault) (d : CheckFault) → Told f d → d ≡ Route f i) → TriedAt a t l s k i m
 tried_at a t l s k i (Ok r) m Told tried cases told = rw cases tried
 tried_at a t l s k i (Err (Step f)) m Told tried cases told =
@@ -59,14 +65,16 @@ tried_at a t l s k i (Err (Step f)) m Told tried cases told =
     rw p.1 (f, told (Step f) p.0 p.2, tried)
 tried_at a t l s k i (Err GoalFalse) m Told tried cases told = absurd tried
 
-module _ {W : Type 0} {a : Algebra W} {t : Tree} {l : Ledger} {here : ℕ → Bool} {w : W} (ks : List ℕ) (i : ℕ) (so_far : Walks a t l (take i ks) here w)
-    (within : i < length ks) (r : Result (Tried W) RouteFault) (m : Result (Tried W) CheckFault) (Told : RouteFault → CheckFault → Type 0)
+module _ {W : Type 0} {a : Algebra W} {t : Tree} {l : Ledger} {here : ℕ → Bool} {w : W} (ks : List ℕ) (i : ℕ)
+    (so_far : Walks a t l (take i ks) here w) (within : i < length ks)
+    (r : Result (Tried W) RouteFault) (m : Result (Tried W) CheckFault) (Told : RouteFault → CheckFault → Type 0)
     (tried : TriedStep a t l here (get_or ks i 0) r) (cases : MatchResult r (λ x. m ≡ Ok x) (λ f. IsErrAnd m (Told f)))
     (told : (f : RouteFault) (d : CheckFault) → Told f d → d ≡ Route f i) where
   at_place : TriedAt a t l here (get_or ks i 0) i m
   at_place = tried_at a t l here (get_or ks i 0) i r m Told tried cases told
 
-  pub walks_on : Laws a → (x : Tried W) → m ≡ Ok x → Walks a t l (take (i + 1) ks) (holds x.state) (a.then w x.weight)
+  pub walks_on : Laws a → (x : Tried W) → m ≡ Ok x →
+      Walks a t l (take (i + 1) ks) (holds x.state) (a.then w x.weight)
   walks_on laws x is =
       rw (take_more ks i 0 within) (walks_more a laws t l (take i ks) (get_or ks i 0) here w x so_far (rw is at at_place))
 
@@ -75,12 +83,23 @@ module _ {W : Type 0} {a : Algebra W} {t : Tree} {l : Ledger} {here : ℕ → Bo
       let step = rw is at at_place in
       rw step.1 (
         on,
-        record { within_the_route = within; here = here; steps_before_lead_here = so_far.leads_there; step_is_hindered_here = step.2 },
+        record {
+          within_the_route = within;
+          here = here;
+          steps_before_lead_here = so_far.leads_there;
+          step_is_hindered_here = step.2;
+        },
       )
 
 -- a route whose steps are executed, and what its goal is told to be at the end
-pub arrives : {W : Type 0} {a : Algebra W} {t : Tree} {l : Ledger} {ks : List ℕ} {last : ℕ → Bool} {w : W} (goal : ℕ) (value : Bool) (r : Option Bool) →
-    Walks a t l ks last w → goal < length t.goals → Valued t last goal r → value ≡ unwrap_or r false → Arrives t l goal ks value
+pub arrives : {W : Type 0} {a : Algebra W} {t : Tree} {l : Ledger} {ks : List ℕ} {last : ℕ → Bool} {w : W}
+    (goal : ℕ) (value : Bool) (r : Option Bool) → Walks a t l ks last w → goal < length t.goals → Valued t last goal r →
+    value ≡ unwrap_or r false → Arrives t l goal ks value
 arrives goal value None walked on h is = absurd (omega arith)
 arrives {last = last} goal value (Some b) walked on h is =
-    record { goal_is_on_the_sheet = on; last = last; route_leads_there = walked.leads_there; goal_value_there = sym (is ∙ h.1) }
+    record {
+      goal_is_on_the_sheet = on;
+      last = last;
+      route_leads_there = walked.leads_there;
+      goal_value_there = sym (is ∙ h.1);
+    }

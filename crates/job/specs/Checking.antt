@@ -15,14 +15,16 @@ use Rattle.job.specs.Routes.{Reaches, Unreached}
 use Rattle.job.specs.Tries.{in_state}
 
 -- one step of a route: what trying it in a state tells, and its weight
-abbrev pub TriedStep : {W : Type 0} → Algebra W → Tree → Ledger → (ℕ → Bool) → ℕ → Result (Tried W) RouteFault → Type 0
+abbrev pub TriedStep : {W : Type 0} → Algebra W → Tree → Ledger → (ℕ → Bool) → ℕ →
+    Result (Tried W) RouteFault → Type 0
 TriedStep a t l s k (Ok r) =
     Attempted t (in_state l s) k (Ok r.state) × (r.weight ≡ step_weight a (step_at t k)) × SomeWeight a r.weight
 TriedStep a t l s k (Err (Step f)) = Attempted t (in_state l s) k (Err f)
 TriedStep a t l s k (Err GoalFalse) = ⊥
 
 -- a run of steps leads from the job's state to this one, and weighs so much
-pub record Walks {W : Type 0} (a : Algebra W) (t : Tree) (l : Ledger) (ks : List ℕ) (last : ℕ → Bool) (w : W) : Type 0 where
+pub record Walks {W : Type 0} (a : Algebra W) (t : Tree) (l : Ledger) (ks : List ℕ) (last : ℕ → Bool) (w : W) :
+    Type 0 where
   pub leads_there : Leads t l.struck l.state ks last
   pub weighs : w ≡ route_weight a t ks
   pub some : SomeWeight a w
@@ -32,7 +34,8 @@ abbrev pub Walked : {W : Type 0} → Algebra W → Tree → Ledger → List ℕ 
 Walked a t l ks (Ok r) = Walks a t l ks (holds r.state) r.weight
 Walked a t l ks (Err f) = (goal : ℕ) → goal < length t.goals → Unreached t l goal ks f
 
-pub record PromisedCheck {W : Type 0} (a : Algebra W) (t : Tree) (l : Ledger) (goal : ℕ) (ks : List ℕ) (r : Result W CheckFault) : Type 0 where
+pub record PromisedCheck {W : Type 0} (a : Algebra W) (t : Tree) (l : Ledger) (goal : ℕ) (ks : List ℕ)
+    (r : Result W CheckFault) : Type 0 where
   -- there is an execution of the allowed steps of this route to a state where the goal is true
   pub accepted_only_where_the_route_reaches_the_goal : is_ok r ≡ true → Reaches t l goal ks
   pub accepted_wherever_the_route_reaches_the_goal : Reaches t l goal ks → is_ok r ≡ true

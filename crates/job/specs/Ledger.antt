@@ -26,7 +26,8 @@ most_done = 200
 abbrev pub Hindered : Tree → Ledger → ℕ → StepFault → Type 0
 Hindered t l k NoSuchStep = length t.steps ≤ k
 Hindered t l k Struck = (k < length t.steps) × (l.struck k ≡ true)
-Hindered t l k ConditionFalse = (k < length t.steps) × (l.struck k ≡ false) × (truth l.state (step_at t k).condition ≡ false)
+Hindered t l k ConditionFalse =
+    (k < length t.steps) × (l.struck k ≡ false) × (truth l.state (step_at t k).condition ≡ false)
 Hindered t l k SetAndCleared =
     (k < length t.steps)
     × (l.struck k ≡ false)

@@ -57,11 +57,14 @@ pub record DayStands (t : Tree) (cs : List Call) (rs : List Answer) (l : Ledger)
 pub record Promised (t : Tree) (before : Ledger) (c : Call) (a : Answer) (after : Ledger) : Type 0 where
   pub answered_by_the_ledger : Happens t before c a after
   pub no_other_answer : (b : Answer) (l : Ledger) → Happens t before c b l → (b ≡ a) × (l ≡ after)
-  pub leads_to_the_next_moment : (cs : List Call) (rs : List Answer) → Moment t cs rs before → Moment t (cs ++ c ∷ []) (rs ++ a ∷ []) after
+  pub leads_to_the_next_moment : (cs : List Call) (rs : List Answer) → Moment t cs rs before →
+      Moment t (cs ++ c ∷ []) (rs ++ a ∷ []) after
 
 -- what a list of calls promises, for every job and for one given this sheet from its opening on
 pub record PromisedList (t : Tree) (before : Ledger) (cs : List Call) (rs : List Answer) (after : Ledger) : Type 0 where
   pub answered_call_by_call : Runs t before cs rs after
   pub no_other_answers : (qs : List Answer) (l : Ledger) → Runs t before cs qs l → (qs ≡ rs) × (l ≡ after)
-  pub leads_to_the_moment_after_the_list : (ds : List Call) (qs : List Answer) → Moment t ds qs before → Moment t (ds ++ cs) (qs ++ rs) after
-  pub day_stands_after_the_list : (ds : List Call) (qs : List Answer) → Moment t ds qs before → DayStands t (ds ++ cs) (qs ++ rs) after
+  pub leads_to_the_moment_after_the_list : (ds : List Call) (qs : List Answer) → Moment t ds qs before →
+      Moment t (ds ++ cs) (qs ++ rs) after
+  pub day_stands_after_the_list : (ds : List Call) (qs : List Answer) → Moment t ds qs before →
+      DayStands t (ds ++ cs) (qs ++ rs) after

@@ -1,5 +1,5 @@
 -- What a job's record holds, as a ledger.
-use Rattle.std.specs.Prelude.{◌≡◌, ℕ, Bool, List, take, Ok, Err}
+use Rattle.std.specs.Prelude.{◌≡◌, ℕ, Bool, List, take, OnErr}
 use Rattle.bits.specs.Bits.{bit}
 use Rattle.execution.specs.State.{holds}
 use Rattle.job.specs.declared.strikes.Strikes.{Strikes}
@@ -19,5 +19,4 @@ ledger j = record { state = holds j.state; struck = struck_in j.strikes; done = 
 
 -- a refused call leaves the whole record as it was
 abbrev pub RefusalKeeps : Answer → Job → Job → Type 0
-RefusalKeeps (Ok u) before after = Unit {0}
-RefusalKeeps (Err f) before after = after ≡ before
+RefusalKeeps a before after = OnErr a (after ≡ before)

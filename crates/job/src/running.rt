@@ -29,7 +29,9 @@ impl Job {
         heap: Global,
         calls: &[Call],
     ) -> Result<Vec<Answer>, AllocError>
-        ensures { MatchResult result (λ answers. PromisedList (tree sheet.now) (ledger self.old) calls.now answers.items (ledger self.new)) (λ _. self.new ≡ self.old) }
+        ensures { MatchResult result
+            (λ answers. PromisedList (tree sheet.now) (ledger self.old) calls.now answers.items (ledger self.new))
+            (λ _. self.new ≡ self.old) }
     {
         let mut answers = Vec::with_capacity(heap, calls.len())?;
         for call in calls {

@@ -6,6 +6,9 @@ use Rattle.job.proofs.jobs.Job.run.Given as goal
 
 abbrev pub invariant-loop-call : goal.invariant-loop-call
 invariant-loop-call l =
-    (length l.calls ≤ vec_capacity l.answers)
-    × (vec_len l.answers ≡ l.call-index)
-    × Runs (tree l.sheet) (ledger l.initial.self) (take l.call-index l.calls) (vec_items l.answers) (ledger l.self)
+    let made = take l.call-index l.calls in
+    record {
+      room : length l.calls ≤ vec_capacity l.answers;
+      counted : vec_len l.answers ≡ l.call-index;
+      run : Runs (tree l.sheet) (ledger l.initial.self) made (vec_items l.answers) (ledger l.self);
+    }
