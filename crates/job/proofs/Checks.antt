@@ -14,7 +14,8 @@ module _ {W : Type 0} (a : Algebra W) (t : Tree) (l : Ledger) (goal : ℕ) (ks :
   check_refused f unreached =
       record {
         accepted_only_where_the_route_reaches_the_goal = λ ok. absurd (false≢true ok);
-        accepted_wherever_the_route_reaches_the_goal = λ reaches. absurd (reached_or_not t l l.state goal ks f reaches unreached);
+        accepted_wherever_the_route_reaches_the_goal =
+            λ reaches. absurd (reached_or_not t l l.state goal ks f reaches unreached);
         weight_is_the_route's = tt;
         weight_is_one_of_the_kind_and_not_none = tt;
         refused_for_the_first_cause = unreached;

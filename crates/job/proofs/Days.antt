@@ -30,9 +30,9 @@ module _ (t : Tree) where
   kept_after_do l m k d kept =
       record {
         made =
-            let ready = d.ready in
+            let on = d.ready.on_the_sheet in
             rw d.step_comes_last
-            (executes_more (start_of t) l.done l.state k m.state kept.made ready.on_the_sheet ready.executable d.state_follows);
+            (executes_more (start_of t) l.done l.state k m.state kept.made on d.ready.executable d.state_follows);
         few = omega (arith, ap length d.step_comes_last, length_push l.done k, d.room);
       }
 

@@ -76,7 +76,8 @@ module _ {W : Type 0} {a : Algebra W} {t : Tree} {l : Ledger} {here : ℕ → Bo
   pub walks_on : Laws a → (x : Tried W) → m ≡ Ok x →
       Walks a t l (take (i + 1) ks) (holds x.state) (a.then w x.weight)
   walks_on laws x is =
-      rw (take_more ks i 0 within) (walks_more a laws t l (take i ks) (get_or ks i 0) here w x so_far (rw is at at_place))
+      rw (take_more ks i 0 within)
+      (walks_more a laws t l (take i ks) (get_or ks i 0) here w x so_far (rw is at at_place))
 
   pub halts_here : (d : CheckFault) → m ≡ Err d → (goal : ℕ) → goal < length t.goals → Unreached t l goal ks d
   halts_here d is goal on =

@@ -11,5 +11,9 @@ returns-in_err-end g c =
 
 pub returns-else-unwrap_or : goal.returns-else-unwrap_or
 returns-else-unwrap_or g c =
-    let there = arrives _ _ _ c.in_ok-end.ensures (omega (arith, c.goals.ensures.counted)) c.satisfied.ensures c.if-unwrap_or.ensures in
-    rw c.at.ensures (check_refused _ _ _ _ _ _ (there, refl))
+    rw c.at.ensures
+    (check_refused _ _ _ _ _ _ (
+      arrives _ _ _ c.in_ok-end.ensures (omega (arith, c.goals.ensures.counted)) c.satisfied.ensures
+          c.if-unwrap_or.ensures,
+      refl,
+    ))

@@ -7,4 +7,5 @@ use Rattle.job.proofs.jobs.Job.walk.Given as goal
 
 abbrev pub invariant-loop-position : goal.invariant-loop-position
 invariant-loop-position g l =
-    Walks (g.K.WeightKind.algebra l.kind) (tree l.sheet) (ledger l.self) (take l.position-counter l.route) (holds l.state) l.weight
+    let walked = take l.position-counter l.route in
+    Walks (g.K.WeightKind.algebra l.kind) (tree l.sheet) (ledger l.self) walked (holds l.state) l.weight
