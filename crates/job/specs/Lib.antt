@@ -1,4 +1,5 @@
 pub mod Numbers
+pub mod Text
 pub mod Answers
 pub mod Ledger
 pub mod Attempts

@@ -1,9 +1,12 @@
 // Why a call is refused.
-ghost use Rattle.std.specs.Prelude.{◌≡◌};
+ghost use Rattle.std.specs.Prelude.{◌≡◌, Some};
 ghost use Rattle.job.specs.Numbers.{number, step_number, hindrance};
+ghost use Rattle.job.specs.Text.{fault_text};
 ghost use Rattle.job.specs.declared.faults.DoFault.TheVariants.{Step};
 
 use execution::ExecutionFault;
+use std::error::Error;
+use std::fmt;
 
 // Why a step may not be done in its turn.
 #[derive(Clone, Copy, Debug, PartialEq, Eq)]
@@ -63,3 +66,14 @@ impl From<DoFault> for u8 {
         }
     }
 }
+
+impl fmt::Display for DoFault {
+    ghost output = { λ fault. Some (fault_text fault) };
+
+    fn fmt<W: fmt::Write>(&self, f: &mut fmt::Formatter<W>) -> fmt::Result {
+        let number = u8::from(*self);
+        write!(f, "refused {number}")
+    }
+}
+
+impl Error for DoFault {}
