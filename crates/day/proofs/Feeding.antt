@@ -4,6 +4,7 @@ use Rattle.std.proofs.lemmas.List.{length-append, length-drop, drop-append-le, d
 use Rattle.std.proofs.lemmas.Bool.Decides.{nat_tests}
 use Rattle.job.specs.declared.calls.Answer.{Answer}
 use Rattle.job.specs.declared.calls.Call.{Call}
+use Rattle.job.specs.Ledger.{Ledger}
 use Rattle.job.specs.Records.{ledger}
 use Rattle.job.proofs.Days.{day_stands}
 use Rattle.sheet.specs.Trees.{Tree}
@@ -13,7 +14,7 @@ use Rattle.day.specs.Calls.{Decoded}
 use Rattle.day.specs.Sessions.{Fed, WholeDay, GoesOn}
 use Rattle.day.specs.Text.{line_text, lines_text, stop_text}
 use Rattle.day.specs.Turning.{Turned, place_after}
-use Rattle.day.proofs.Rejoining.{decoded_on, whole_calls, length_encoded}
+use Rattle.day.proofs.Rejoining.{decoded_on, calls_within}
 
 lines_append : (cs ds : List Call) (rs qs : List Answer) → length rs ≡ length cs → lines_text (cs ++ ds) (rs ++ qs) ≡ lines_text cs rs ++ lines_text ds qs
 lines_append [] ds [] qs h = refl
@@ -23,15 +24,10 @@ lines_append (c ∷ cs) ds (a ∷ rs) qs h =
     ap (λ (xs : List ℕ). line_text c a ++ xs) (lines_append cs ds rs qs (omega arith))
     ∙ sym (append_assoc (line_text c a) (lines_text cs rs) (lines_text ds qs))
 
-words_short : (bs : List ℕ) → 4 * length (whole_words bs) ≤ length bs
-words_short [] = omega arith
-words_short (a ∷ []) = omega arith
-words_short (a ∷ b ∷ []) = omega arith
-words_short (a ∷ b ∷ c ∷ []) = omega arith
-words_short (a ∷ b ∷ c ∷ d ∷ rest) = omega (arith, words_short rest)
-
-calls_short : (bs : List ℕ) (cs : List Call) → Decoded (whole_words bs) cs false → 4 * length cs ≤ length bs
-calls_short bs cs x = omega (arith, words_short bs, ap length (whole_calls (whole_words bs) cs x), length_encoded cs)
+-- a turn uses no more bytes than there are
+pub used_within : (t : Tree) (before after : Ledger) (bytes text : List ℕ) (place used : ℕ) (stopped : Bool) → Turned t before bytes place text used stopped after → 4 * used ≤ length bytes
+used_within t before after bytes text place used stopped x =
+    omega (arith, calls_within bytes x.calls stopped x.bytes_ask_for_the_calls, x.used_counts_the_calls)
 
 place_on : (start a b n : ℕ) → n ≡ a + b → place_after (place_after start a) b ≡ place_after start n
 place_on start a b n h = omega arith
@@ -41,7 +37,7 @@ module _ (t : Tree) (start : ℕ) (given told : List ℕ) (before : Session) (fe
   one_answer_each = (day_stands t fed.calls fed.answers (ledger before.job) fed.job_is_at_the_moment_after_them).each_call_has_one_answer
 
   short : 4 * length fed.calls ≤ length given
-  short = calls_short given fed.calls fed.bytes_ask_for_the_calls
+  short = calls_within given fed.calls false fed.bytes_ask_for_the_calls
 
   module _ (after : Session) (bytes text : List ℕ) (used : ℕ) (stopped : Bool)
       (turned : Turned t (ledger before.job) (vec_items before.pending ++ bytes) before.place text used stopped (ledger after.job))

@@ -1,4 +1,3 @@
-pub mod Drops
 pub mod Chunks
 pub mod Prefixes
 pub mod Printing

@@ -1,5 +1,6 @@
 -- Bytes that arrive in parts ask for the same calls.
-use Rattle.std.proofs.Common.{◌≡◌, ℕ, suc, ◌*◌, Bool, true, false, List, [], ◌∷◌, ◌++◌, length, drop, sym, refl, ap, ◌∙◌, subst, true≢false, append_assoc, append-nil, arith}
+use Rattle.std.proofs.Common.{◌≡◌, ℕ, suc, ◌*◌, ◌≤◌, Bool, true, false, List, [], ◌∷◌, ◌++◌, length, drop, sym, refl, ap, ◌∙◌, subst, true≢false, append_assoc, append-nil, arith}
+use Rattle.std.proofs.lemmas.List.{length-append}
 use Rattle.std.specs.List.{flat_map}
 use Rattle.job.specs.declared.calls.Call.{Call}
 use Rattle.day.specs.Bytes.{word, whole_words}
@@ -30,11 +31,23 @@ encode_append : (cs ds : List Call) → flat_map encode_call (cs ++ ds) ≡ flat
 encode_append [] ds = refl
 encode_append (c ∷ cs) ds = ap (λ (ws : List ℕ). encode_call c ++ ws) (encode_append cs ds)
 
-pub length_encoded : (cs : List Call) → length (flat_map encode_call cs) ≡ length cs
+length_encoded : (cs : List Call) → length (flat_map encode_call cs) ≡ length cs
 length_encoded [] = refl
 length_encoded (c ∷ cs) = ap suc (length_encoded cs)
 
-pub whole_calls : (ws : List ℕ) (cs : List Call) → Decoded ws cs false → ws ≡ flat_map encode_call cs
+words_within : (bs : List ℕ) → 4 * length (whole_words bs) ≤ length bs
+words_within [] = omega arith
+words_within (a ∷ []) = omega arith
+words_within (a ∷ b ∷ []) = omega arith
+words_within (a ∷ b ∷ c ∷ []) = omega arith
+words_within (a ∷ b ∷ c ∷ d ∷ rest) = omega (arith, words_within rest)
+
+-- the calls take no more bytes than there are
+pub calls_within : (bs : List ℕ) (cs : List Call) (s : Bool) → Decoded (whole_words bs) cs s → 4 * length cs ≤ length bs
+calls_within bs cs s x =
+    omega (arith, words_within bs, ap length x.whole, length-append (flat_map encode_call cs) x.rest, length_encoded cs)
+
+whole_calls : (ws : List ℕ) (cs : List Call) → Decoded ws cs false → ws ≡ flat_map encode_call cs
 whole_calls ws cs x =
     x.whole ∙ ap (λ (r : List ℕ). flat_map encode_call cs ++ r) x.ends ∙ append-nil (flat_map encode_call cs)
 

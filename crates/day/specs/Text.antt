@@ -6,9 +6,11 @@ use Rattle.sheet.specs.declared.faults.Part.TheVariants.{Head, Step, Goal}
 use Rattle.sheet.specs.declared.faults.SheetFault.{SheetFault}
 use Rattle.job.specs.Numbers.{number}
 use Rattle.job.specs.declared.calls.Answer.{Answer}
-use Rattle.job.specs.declared.calls.Answer.TheVariants.{Done, Refused}
+use Rattle.job.specs.declared.calls.Answer.TheVariants.{Done}
 use Rattle.job.specs.declared.calls.Call.{Call}
 use Rattle.job.specs.declared.calls.Call.TheVariants.{Do, Strike, Allow}
+use Rattle.day.specs.declared.endings.Ending.{Ending}
+use Rattle.day.specs.declared.endings.Ending.TheVariants.{Refused, Stopped}
 use Rattle.day.specs.Calls.{step}
 
 abbrev pub newline : List ℕ
@@ -21,7 +23,7 @@ verb (Allow n) = codes "allow"
 
 abbrev pub outcome : Answer → List ℕ
 outcome Done = codes "done"
-outcome (Refused f) = codes "refused " ++ decimal (number f)
+outcome (Answer.Refused f) = codes "refused " ++ decimal (number f)
 
 abbrev pub line_text : Call → Answer → List ℕ
 line_text c a = verb c ++ (codes " " ++ (decimal (step c) ++ (codes ": " ++ (outcome a ++ newline))))
@@ -37,6 +39,11 @@ refusal_text f =
 
 abbrev pub stop_text : ℕ → List ℕ
 stop_text n = codes "stopped at word " ++ (decimal n ++ newline)
+
+-- the line that ends a day before its input does
+abbrev pub ending_text : Ending → List ℕ
+ending_text (Refused f) = refusal_text f
+ending_text (Stopped n) = stop_text n
 
 -- the lines of answers to calls, in order
 abbrev pub lines_text : List Call → List Answer → List ℕ

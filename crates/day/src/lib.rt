@@ -3,6 +3,7 @@
 
 mod bytes;
 mod decoding;
+mod endings;
 mod opening;
 mod sessions;
 mod text;
@@ -10,7 +11,8 @@ mod turns;
 
 pub use bytes::words;
 pub use decoding::{Batch, decode};
+pub use endings::Ending;
 pub use opening::{Opening, open, opening_size};
 pub use sessions::Session;
-pub use text::{Line, SheetRefusal, Stop, lines};
+pub use text::{Line, SheetRefusal, lines};
 pub use turns::Turn;

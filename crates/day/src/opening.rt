@@ -3,15 +3,15 @@ ghost use Rattle.std.specs.Prelude.{◌≡◌, IfOk};
 ghost use Rattle.day.specs.Opening.{sheet_count, opening_size, Opened};
 
 use crate::bytes::words;
+use crate::endings::Ending;
 use sheet::{Cause, Part, SheetFault};
 use std::alloc::{AllocError, Global};
 
-// The place of the word that is missing or cut, the refusal of too many words, or the sheet's words and the bytes behind.
+// The sheet's words, and the bytes behind them that are there.
 #[derive(Drop)]
-pub enum Opening<'a> {
-    Stopped(u64),
-    Refused(SheetFault),
-    Sheet(Vec<u32>, &'a [u8]),
+pub struct Opening<'a> {
+    pub words: Vec<u32>,
+    pub calls: &'a [u8],
 }
 
 fn sheet_count(bytes: &[u8]) -> u32
@@ -35,12 +35,13 @@ pub fn opening_size(bytes: &[u8]) -> usize
     }
 }
 
-pub fn open<'a>(heap: Global, bytes: &'a [u8]) -> Result<Opening<'a>, AllocError>
+// Opens the day, unless it ends before its sheet is there.
+pub fn open<'a>(heap: Global, bytes: &'a [u8]) -> Result<Result<Opening<'a>, Ending>, AllocError>
     ensures { IfOk result (Opened bytes.now) }
 {
     let size = opening_size(bytes);
     if bytes.len() < size {
-        return Ok(Opening::Stopped(bytes.len() as u64 / 4));
+        return Ok(Err(Ending::Stopped(bytes.len() as u64 / 4)));
     }
     if sheet_count(bytes) > 4096 {
         let fault = SheetFault {
@@ -48,8 +49,9 @@ pub fn open<'a>(heap: Global, bytes: &'a [u8]) -> Result<Opening<'a>, AllocError
             place: 4096,
             part: Part::Head,
         };
-        return Ok(Opening::Refused(fault));
+        return Ok(Err(Ending::Refused(fault)));
     }
-    let sheet = words(heap, &bytes[4..size])?;
-    Ok(Opening::Sheet(sheet, &bytes[size..]))
+    let words = words(heap, &bytes[4..size])?;
+    let calls = &bytes[size..];
+    Ok(Ok(Opening { words, calls }))
 }

@@ -7,7 +7,7 @@ ghost use Rattle.day.specs.Sessions.{TurnedSession, first_place, Fed, WholeDay, 
 ghost use Rattle.day.specs.Text.{stop_text};
 ghost use Rattle.day.specs.Turning.{Unfinished};
 
-use crate::text::add_stop;
+use crate::endings::Ending;
 use crate::turns::{Turn, take_turn};
 use job::Job;
 use sheet::Sheet;
@@ -18,15 +18,6 @@ pub struct Session {
     job: Job,
     pending: Vec<u8>,
     place: u64,
-}
-
-fn drop_front(bytes: &mut Vec<u8>, count: usize)
-    ensures { bytes.new.items ≡ drop count bytes.old.items }
-{
-    let cut = count.min(bytes.len());
-    let left = bytes.len() - cut;
-    bytes.rotate_left(cut);
-    bytes.truncate(left);
 }
 
 impl Session {
@@ -43,33 +34,28 @@ impl Session {
     }
 
     // Answers the whole calls among the bytes that are there.
-    pub fn feed(
-        &mut self,
-        heap: Global,
-        sheet: &Sheet<'_>,
-        bytes: &[u8],
-    ) -> Result<Turn, AllocError>
+    pub fn feed(&mut self, sheet: &Sheet<'_>, bytes: &[u8]) -> Result<Turn, AllocError>
         ensures turned { MatchResult result (λ turn. TurnedSession (tree sheet.now) self.old bytes.now turn self.new) (λ _. Unfinished (tree sheet.now) (ledger self.old.job) (self.old.pending.items ++ bytes.now) (ledger self.new.job)) }
         ensures goes_on { (start : ℕ) (given told : List ℕ) → Fed (tree sheet.now) start given told self.old → IfOk result (λ turn. GoesOn (tree sheet.now) start (given ++ bytes.now) (told ++ string_bytes turn.text) turn.stopped self.new) }
     {
+        let heap = *self.pending.allocator();
         self.pending.extend_from_slice(bytes)?;
         let pending = self.pending.as_slice();
         let turn = take_turn(heap, sheet, &mut self.job, self.place, pending)?;
-        drop_front(&mut self.pending, turn.used.saturating_mul(4));
+        self.pending.drain(..4 * turn.used);
         self.place = self.place.saturating_add(turn.used as u64);
         Ok(turn)
     }
 
     // What is told when no more bytes come: bytes that are left are a cut word.
-    pub fn end(&self, heap: Global) -> Result<String, AllocError>
+    pub fn end(&self) -> Result<String, AllocError>
         ensures told { IfOk result (λ text. string_bytes text ≡ (if nat_eq (length self.now.pending.items) 0 then [] else stop_text self.now.place)) }
         ensures ended { (t : Tree) (start : ℕ) (given told : List ℕ) → Fed t start given told self.now → IfOk result (λ text. WholeDay t start given (told ++ string_bytes text)) }
     {
-        let mut text = String::new(heap);
+        let heap = *self.pending.allocator();
         if self.pending.is_empty() {
-            return Ok(text);
+            return Ok(String::new(heap));
         }
-        add_stop(&mut text, self.place)?;
-        Ok(text)
+        Ending::Stopped(self.place).to_string(heap)
     }
 }

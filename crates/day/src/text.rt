@@ -2,7 +2,7 @@
 ghost use Rattle.std.specs.Prelude.{◌≡◌, ◌++◌, IfOk, Some, string_bytes, decimal, OnOk};
 ghost use Rattle.sheet.specs.Numbers.{number};
 ghost use Rattle.day.specs.Calls.{step};
-ghost use Rattle.day.specs.Text.{verb, outcome, line_text, part_text, refusal_text, stop_text, lines_text};
+ghost use Rattle.day.specs.Text.{verb, outcome, line_text, part_text, refusal_text, lines_text};
 
 use job::{Answer, Call};
 use sheet::{Cause, Part, SheetFault};
@@ -19,10 +19,6 @@ pub struct Line {
 // The line that refuses a sheet.
 #[derive(Clone, Copy)]
 pub struct SheetRefusal(pub SheetFault);
-
-// The line that ends a day at the word of this place.
-#[derive(Clone, Copy)]
-pub struct Stop(pub u64);
 
 #[derive(Clone, Copy)]
 struct Outcome(Answer);
@@ -110,27 +106,11 @@ impl fmt::Display for SheetRefusal {
     }
 }
 
-impl fmt::Display for Stop {
-    ghost output = { λ s. Some (stop_text s.0) };
-
-    fn fmt<W: fmt::Write>(&self, f: &mut fmt::Formatter<W>) -> fmt::Result {
-        let place = self.0;
-        write!(f, "stopped at word {place}\n")
-    }
-}
-
 fn add_line(text: &mut String, call: Call, answer: Answer) -> Result<(), AllocError>
     ensures { OnOk result (string_bytes text.new ≡ string_bytes text.old ++ line_text call answer) }
 {
     let line = Line { call, answer };
-    write!(text, "{line}").or(Err(AllocError))
-}
-
-pub(crate) fn add_stop(text: &mut String, place: u64) -> Result<(), AllocError>
-    ensures { OnOk result (string_bytes text.new ≡ string_bytes text.old ++ stop_text place) }
-{
-    let stop = Stop(place);
-    write!(text, "{stop}").or(Err(AllocError))
+    write!(text, "{line}")
 }
 
 // The lines of the answers to the calls, in order.
@@ -138,8 +118,8 @@ pub fn lines(heap: Global, calls: &[Call], answers: &[Answer]) -> Result<String,
     ensures { IfOk result (λ s. string_bytes s ≡ lines_text calls.now answers.now) }
 {
     let mut text = String::new(heap);
-    for i in 0..calls.len().min(answers.len()) {
-        add_line(&mut text, calls[i], answers[i])?;
+    for (call, answer) in calls.iter().zip(answers) {
+        add_line(&mut text, *call, *answer)?;
     }
     Ok(text)
 }

@@ -1,13 +1,13 @@
 // One turn of a day: the whole calls among the bytes that are there, run as one list.
-ghost use Rattle.std.specs.Prelude.{◌≡◌, [], ◌++◌, if◌then◌else◌, string_bytes, MatchResult, OnOk};
-ghost use Rattle.day.specs.Text.{stop_text};
+ghost use Rattle.std.specs.Prelude.{string_bytes, MatchResult};
 ghost use Rattle.day.specs.Turning.{Turned, Unfinished};
 ghost use Rattle.job.specs.Records.{ledger};
 ghost use Rattle.sheet.specs.Reading.{tree};
 
 use crate::bytes::words;
 use crate::decoding::decode;
-use crate::text::{add_stop, lines};
+use crate::endings::Ending;
+use crate::text::lines;
 use job::Job;
 use sheet::Sheet;
 use std::alloc::{AllocError, Global};
@@ -18,15 +18,6 @@ pub struct Turn {
     pub text: String,
     pub used: usize,
     pub stopped: bool,
-}
-
-fn add_end(text: &mut String, stopped: bool, place: u64) -> Result<(), AllocError>
-    ensures { OnOk result (string_bytes text.new ≡ string_bytes text.old ++ (if stopped then stop_text place else [])) }
-{
-    if stopped {
-        add_stop(text, place)?;
-    }
-    Ok(())
 }
 
 // The bytes begin with the word of this place.
@@ -45,7 +36,10 @@ pub(crate) fn take_turn(
     let mut text = lines(heap, batch.calls.as_slice(), answers.as_slice())?;
     let used = batch.calls.len();
     let stopped = batch.stopped;
-    add_end(&mut text, stopped, place.saturating_add(used as u64))?;
+    if stopped {
+        let ending = Ending::Stopped(place.saturating_add(used as u64));
+        write!(text, "{ending}")?;
+    }
     Ok(Turn {
         text,
         used,

@@ -3,7 +3,7 @@
 
 ghost use Rattle.std.specs.Prelude.{◌≡◌, ℕ, ◌<◌, true, false, List, [], ◌++◌, IfOk, vec_len};
 
-use day::{Opening, Session, SheetRefusal, Stop, open, opening_size};
+use day::{Ending, Opening, Session, open, opening_size};
 use sheet::Sheet;
 use std::alloc::Global;
 use std::io;
@@ -35,22 +35,24 @@ fn print<W: Write>(output: &mut W, text: &str) -> io::Result<()> {
     output.flush()
 }
 
+fn print_ending<W: Write>(heap: Global, ending: Ending, output: &mut W) -> io::Result<()> {
+    print(output, ending.to_string(heap)?.as_str())
+}
+
 // Prints what the bytes are answered, and says whether the day ends there.
 fn answer<W: Write>(
-    heap: Global,
     sheet: &Sheet<'_>,
     session: &mut Session,
     bytes: &[u8],
     output: &mut W,
 ) -> io::Result<bool> {
-    let turn = session.feed(heap, sheet, bytes)?;
+    let turn = session.feed(sheet, bytes)?;
     print(output, turn.text.as_str())?;
     Ok(turn.stopped)
 }
 
-// Answers what is there, and then what each read brings.
+// Answers what each read brings.
 fn run_calls<R: Read, W: Write>(
-    heap: Global,
     sheet: &Sheet<'_>,
     session: &mut Session,
     input: &mut R,
@@ -60,32 +62,31 @@ fn run_calls<R: Read, W: Write>(
     for _ in 0..u64::MAX {
         let count = input.read(&mut buffer)?;
         if count == 0 {
-            return print(output, session.end(heap)?.as_str());
+            return print(output, session.end()?.as_str());
         }
-        if answer(heap, sheet, session, &buffer[..count], output)? {
+        if answer(sheet, session, &buffer[..count], output)? {
             return Ok(());
         }
     }
     Ok(())
 }
 
-// The words of the sheet, the bytes behind them that are there already, and the input.
+// Reads the sheet, and answers the calls that are there already and those that the input brings.
 fn run_sheet<R: Read, W: Write>(
     heap: Global,
-    words: &[u32],
-    calls: &[u8],
+    opening: &Opening<'_>,
     input: &mut R,
     output: &mut W,
 ) -> io::Result<()> {
     let mut sheet = Sheet::empty();
-    if let Err(fault) = sheet.read(words) {
-        return print(output, SheetRefusal(fault).to_string(heap)?.as_str());
+    if let Err(fault) = sheet.read(opening.words.as_slice()) {
+        return print_ending(heap, Ending::Refused(fault), output);
     }
     let mut session = Session::open(heap, &sheet);
-    if answer(heap, &sheet, &mut session, calls, output)? {
+    if answer(&sheet, &mut session, opening.calls, output)? {
         return Ok(());
     }
-    run_calls(heap, &sheet, &mut session, input, output)
+    run_calls(&sheet, &mut session, input, output)
 }
 
 // Reads a day from the input, and writes its answers as each read brings their calls.
@@ -93,8 +94,7 @@ pub fn run_day<R: Read, W: Write>(heap: Global, input: &mut R, output: &mut W) -
     let mut pending = Vec::new(heap);
     fill_opening(input, &mut pending)?;
     match open(heap, pending.as_slice())? {
-        Opening::Stopped(place) => print(output, Stop(place).to_string(heap)?.as_str()),
-        Opening::Refused(fault) => print(output, SheetRefusal(fault).to_string(heap)?.as_str()),
-        Opening::Sheet(words, calls) => run_sheet(heap, words.as_slice(), calls, input, output),
+        Ok(opening) => run_sheet(heap, &opening, input, output),
+        Err(ending) => print_ending(heap, ending, output),
     }
 }

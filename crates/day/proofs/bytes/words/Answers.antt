@@ -1,9 +1,13 @@
-use Rattle.std.proofs.Common.{◌≤◌, length, vec_items, arith}
-use Rattle.day.proofs.Chunks.{words_more}
+use Rattle.std.proofs.Common.{length, ◌/◌, rules}
+use Rattle.std.specs.Simd.{first_chunks}
+use Rattle.std.proofs.lemmas.Iterator.{YieldsList-from_slice, YieldsList-from_map, items_from_collect}
+use Rattle.day.proofs.Chunks.{word_of, words_in_chunks}
 use Rattle.day.proofs.bytes.words.Goals as goal
 
-pub loop-word-preserved : goal.loop-word-preserved
-loop-word-preserved c =
-    let cut = c.in-Some.ensures.cases in
-    let long : 4 ≤ length c.loop-word.rest.now = omega (arith, cut.2) in
-    words_more _ c.loop-word.rest.now c.in-Some.word.now c.in-Some.more.now c.args.bytes.now (vec_items c.push.new.self) _ c.loop-word.invariant cut.0 cut.1 long c.from_be_bytes.ensures c.in_ok-push.ensures.items
+pub returns : goal.returns
+returns c =
+    let bytes = c.args.bytes.now in
+    let chunks = first_chunks 4 (length bytes / 4) bytes in
+    rw (words_in_chunks bytes) at
+    (items_from_collect _ c.collect.ensures.ran
+    (YieldsList-from_map _ word_of (YieldsList-from_slice chunks (cc)) c.map.ensures.closure (λ x r q k. search rules)))

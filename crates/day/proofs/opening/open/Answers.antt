@@ -13,7 +13,7 @@ returns c =
     let few : sheet_count c.args.bytes.now ≤ 4096 = subst (λ n. n ≤ 4096) c.sheet_count.ensures c.if-sheet_count-gt4096.false in (
       subst (λ n. n ≤ length c.args.bytes.now) c.opening_size-size.ensures c.if-bytes-size.false,
       few,
-      c.in_ok-sheet.ensures
+      c.in_ok-words.ensures
           ∙ ap (λ (n : ℕ). whole_words (take n (drop 4 c.args.bytes.now))) (sheet_bytes c.args.bytes.now c.opening_size-size.result c.opening_size-size.ensures few),
       take_rest c.args.bytes.now c.opening_size-size.result ∙ ap (λ (n : ℕ). drop n c.args.bytes.now) c.opening_size-size.ensures,
     )

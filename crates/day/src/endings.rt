@@ -1,0 +1,28 @@
+// How a day ends before its input does: no lawful sheet comes, or a word fits nothing or is cut.
+ghost use Rattle.std.specs.Prelude.{Some};
+ghost use Rattle.day.specs.Text.{ending_text};
+
+use crate::text::SheetRefusal;
+use sheet::SheetFault;
+use std::fmt;
+
+// The fault of the sheet, or the place of the word.
+#[derive(Clone, Copy)]
+pub enum Ending {
+    Refused(SheetFault),
+    Stopped(u64),
+}
+
+impl fmt::Display for Ending {
+    ghost output = { λ e. Some (ending_text e) };
+
+    fn fmt<W: fmt::Write>(&self, f: &mut fmt::Formatter<W>) -> fmt::Result {
+        match self {
+            Ending::Refused(fault) => {
+                let refusal = SheetRefusal(*fault);
+                write!(f, "{refusal}")
+            }
+            Ending::Stopped(place) => write!(f, "stopped at word {place}\n"),
+        }
+    }
+}
