@@ -31,13 +31,13 @@ pub fn decode(heap: Global, words: &[u32]) -> Result<Batch, AllocError>
 {
     let mut calls = Vec::new(heap);
     for word in words {
-        match call_of(*word) {
-            Some(call) => calls.push(call)?,
-            None => return Ok(Batch {
+        let Some(call) = call_of(*word) else {
+            return Ok(Batch {
                 calls,
                 stopped: true,
-            }),
-        }
+            });
+        };
+        calls.push(call)?;
     }
     Ok(Batch {
         calls,

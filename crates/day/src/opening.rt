@@ -17,10 +17,7 @@ pub struct Opening<'a> {
 fn sheet_count(bytes: &[u8]) -> u32
     ensures { result ≡ sheet_count bytes.now }
 {
-    match bytes.first_chunk::<4>() {
-        Some(word) => u32::from_be_bytes(*word),
-        None => 0,
-    }
+    bytes.first_chunk::<4>().map_or(0, |word| u32::from_be_bytes(*word))
 }
 
 // How many bytes open the day, as far as these tell.
