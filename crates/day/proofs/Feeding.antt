@@ -2,7 +2,7 @@
 use Rattle.std.proofs.Common.{◌≡◌, ℕ, ◌+◌, ◌-◌, ◌*◌, ◌≤◌, Bool, true, false, cond, not, eqb, List, [], ◌∷◌, ◌++◌, length, drop, vec_items, sym, refl, ap, ◌∙◌, subst, ap₂, append_assoc, append-nil, arith}
 use Rattle.std.proofs.lemmas.List.{length-append, length-drop, drop-append-le, drop-drop}
 use Rattle.std.proofs.lemmas.Bool.Decides.{nat_tests}
-use Rattle.job.specs.declared.calls.Answer.{Answer}
+use Rattle.job.specs.Answers.{Answer}
 use Rattle.job.specs.declared.calls.Call.{Call}
 use Rattle.job.specs.Ledger.{Ledger}
 use Rattle.job.specs.Records.{ledger}

@@ -1,6 +1,6 @@
 -- The text of the first lines of a list of answers.
 use Rattle.std.proofs.Common.{◌≡◌, ℕ, zero, suc, ◌+◌, ◌<◌, ◌≤◌, min, List, [], ◌∷◌, ◌++◌, length, get_or, take, sym, refl, ap, ◌∙◌, append_assoc, append-nil, add-one, arith}
-use Rattle.job.specs.declared.calls.Answer.{Answer}
+use Rattle.job.specs.Answers.{Answer}
 use Rattle.job.specs.declared.calls.Call.{Call}
 use Rattle.day.specs.Text.{line_text, lines_text}
 

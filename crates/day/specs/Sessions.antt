@@ -1,6 +1,6 @@
 -- A day's calls as they arrive: what a session that was given these bytes holds, and what a whole day prints.
 use Rattle.std.specs.Prelude.{◌≡◌, ℕ, ◌+◌, ◌*◌, Bool, false, cond, not, ◌||◌, List, [], ◌++◌, length, drop, vec_items, string_bytes, MatchBool, ◌==◌}
-use Rattle.job.specs.declared.calls.Answer.{Answer}
+use Rattle.job.specs.Answers.{Answer}
 use Rattle.job.specs.declared.calls.Call.{Call}
 use Rattle.job.specs.Ledger.{Ledger}
 use Rattle.job.specs.Moments.{Moment}

@@ -1,6 +1,6 @@
 -- One turn of a day: what the bytes that are there ask for, and what is printed of it.
 use Rattle.std.specs.Prelude.{◌≡◌, ℕ, ◌+◌, ◌-◌, ◌*◌, ◌^◌, min, Bool, false, cond, ◌⊎◌, List, [], ◌++◌, length, drop}
-use Rattle.job.specs.declared.calls.Answer.{Answer}
+use Rattle.job.specs.Answers.{Answer}
 use Rattle.job.specs.declared.calls.Call.{Call}
 use Rattle.job.specs.Ledger.{Ledger}
 use Rattle.job.specs.Moments.{PromisedList}

@@ -2,12 +2,11 @@
 ghost use Rattle.std.specs.Prelude.{Some};
 ghost use Rattle.day.specs.Text.{ending_text};
 
-use crate::text::SheetRefusal;
 use sheet::SheetFault;
 use std::fmt;
 
 // The fault of the sheet, or the place of the word.
-#[derive(Clone, Copy)]
+#[derive(Clone, Copy, Debug, PartialEq, Eq)]
 pub enum Ending {
     Refused(SheetFault),
     Stopped(u64),
@@ -18,11 +17,8 @@ impl fmt::Display for Ending {
 
     fn fmt<W: fmt::Write>(&self, f: &mut fmt::Formatter<W>) -> fmt::Result {
         match self {
-            Ending::Refused(fault) => {
-                let refusal = SheetRefusal(*fault);
-                write!(f, "{refusal}")
-            }
-            Ending::Stopped(place) => write!(f, "stopped at word {place}\n"),
+            Ending::Refused(fault) => writeln!(f, "sheet: {fault}"),
+            Ending::Stopped(place) => writeln!(f, "stopped at word {place}"),
         }
     }
 }

@@ -14,5 +14,5 @@ pub use decoding::{Batch, decode};
 pub use endings::Ending;
 pub use opening::{Opening, open, opening_size};
 pub use sessions::Session;
-pub use text::{Line, SheetRefusal, lines};
+pub use text::{Line, lines};
 pub use turns::Turn;

@@ -17,7 +17,9 @@ pub struct Opening<'a> {
 fn sheet_count(bytes: &[u8]) -> u32
     ensures { result ≡ sheet_count bytes.now }
 {
-    bytes.first_chunk::<4>().map_or(0, |word| u32::from_be_bytes(*word))
+    bytes
+        .first_chunk::<4>()
+        .map_or(0, |word| u32::from_be_bytes(*word))
 }
 
 // How many bytes open the day, as far as these tell.
