@@ -1,5 +1,4 @@
 use Rattle.std.proofs.Common.{◌≡◌, ◌+◌, ◌-◌, ◌&&◌, length, sym, ap, ◌∙◌, arith}
-use native.Mathlib.Numerals.{unary_clauses}
 use Rattle.sheet.specs.declared.kinds.Kind.{Kind}
 use Rattle.sheet.specs.Trees.{set, clear}
 use Rattle.execution.specs.State.{holds}
@@ -73,10 +72,6 @@ members-gather-gathered-requires t c =
     let left = c.loop-done.invariant _ _ c.requires.2 in
     let m = members _ _ _ (c.args.count - (c.loop-done._done + 1)) (omega arith) _ left.first in
     (omega (arith, c.decreases, left.shorter), (m.head, _, m.head_first))
-
-pub members-loop-done-init : goal.members-loop-done-init
-members-loop-done-init t c es tail p =
-    record { effects = es; first = simp unary_clauses p; shorter = omega arith; added = λ q. q }
 
 pub members-loop-done-preserved : goal.members-loop-done-preserved
 members-loop-done-preserved t c es tail p =

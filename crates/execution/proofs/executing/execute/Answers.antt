@@ -7,10 +7,6 @@ use Rattle.execution.proofs.Outcomes.{clash_told, clash_seen, successor_told}
 use Rattle.execution.proofs.PartWords.{condition_first, effect_next}
 use Rattle.execution.proofs.executing.execute.Goals as goal
 
-pub truth-condition-requires : goal.truth-condition-requires
-truth-condition-requires c =
-    let found = rw (c.ok_or.ensures.ok_part, c.in_ok-part.was) at c.step.ensures in (_, _, condition_first _ _ _ found)
-
 pub returns-then-not-condition : goal.returns-then-not-condition
 returns-then-not-condition c =
     let found = rw (c.ok_or.ensures.ok_part, c.in_ok-part.was) at c.step.ensures in

@@ -1,9 +1,6 @@
 use Rattle.execution.proofs.PartWords.{goal_first}
 use Rattle.execution.proofs.executing.satisfied.Goals as goal
 
-pub truth-requires : goal.truth-requires
-truth-requires c = (_, _, goal_first _ _ _ c.in_ok-part.ensures)
-
 pub returns : goal.returns
 returns c =
     let found = c.in_ok-part.ensures in

@@ -1,5 +1,4 @@
-use Rattle.std.proofs.Common.{◌+◌, ◌-◌, not as negated, length, refl, sym, ap, ◌∙◌, arith}
-use native.Mathlib.Numerals.{unary_clauses}
+use Rattle.std.proofs.Common.{◌+◌, ◌-◌, not as negated, length, sym, ap, ◌∙◌, arith}
 use Rattle.sheet.specs.declared.kinds.Kind.{Kind}
 use Rattle.execution.specs.State.{holds}
 use Rattle.execution.specs.Truth.{truth}
@@ -11,10 +10,6 @@ members-truth-next-requires t c =
     let left = c.loop-done.invariant _ _ c.requires.2 in
     let m = members _ _ _ (c.args.count - (c.loop-done._done + 1)) (omega arith) _ left.first in
     (omega (arith, c.decreases, left.shorter), (m.head, _, m.head_first))
-
-pub members-loop-done-init : goal.members-loop-done-init
-members-loop-done-init t c fs tail p =
-    record { formulas = fs; first = simp unary_clauses p; shorter = omega arith; all_is = refl; any_is = refl }
 
 pub members-loop-done-preserved : goal.members-loop-done-preserved
 members-loop-done-preserved t c fs tail p =
