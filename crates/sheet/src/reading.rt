@@ -18,11 +18,7 @@ impl<'a> Sheet<'a> {
     {
         Sheet {
             words: &EMPTY,
-            counts: Counts {
-                facts: 0,
-                steps: 0,
-                goals: 0,
-            },
+            counts: Counts::default(),
         }
     }
 

@@ -11,7 +11,7 @@ use crate::sections::Section;
 // The most words that a sheet may have.
 const MOST_WORDS: usize = 4096;
 
-#[derive(Clone, Copy)]
+#[derive(Clone, Copy, Default)]
 pub struct Counts {
     pub facts: u32,
     pub steps: u32,
