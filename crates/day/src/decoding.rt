@@ -6,7 +6,7 @@ ghost use Rattle.job.specs.declared.calls.Call.{Call as JobCall};
 use job::Call;
 use std::alloc::{AllocError, Global};
 
-// The calls in order, and whether a word that fits nothing ended them.
+// The calls in order, and whether a word that fits nothing ended them; they count either way, so it is no Option.
 #[derive(Drop)]
 pub struct Batch {
     pub calls: Vec<Call>,

@@ -33,7 +33,7 @@ impl Session {
         }
     }
 
-    // Answers the whole calls among the bytes that are there.
+    // Answers the whole calls among the bytes that are there; the sheet is given anew, as to each call of a job.
     pub fn feed(&mut self, sheet: &Sheet<'_>, bytes: &[u8]) -> Result<Turn, AllocError>
         ensures turned { MatchResult result (λ turn. TurnedSession (tree sheet.now) self.old bytes.now turn self.new) (λ _. Unfinished (tree sheet.now) (ledger self.old.job) (self.old.pending.items ++ bytes.now) (ledger self.new.job)) }
         ensures goes_on { (start : ℕ) (given told : List ℕ) → Fed (tree sheet.now) start given told self.old → IfOk result (λ turn. GoesOn (tree sheet.now) start (given ++ bytes.now) (told ++ string_bytes turn.text) turn.stopped self.new) }

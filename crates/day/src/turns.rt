@@ -12,7 +12,7 @@ use job::Job;
 use sheet::Sheet;
 use std::alloc::{AllocError, Global};
 
-// What to print, how many words were calls, and whether the day ends here.
+// What to print, how many words were calls, and whether the day ends here; the text counts either way.
 #[derive(Drop)]
 pub struct Turn {
     pub text: String,

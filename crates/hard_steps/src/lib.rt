@@ -9,6 +9,7 @@ use weights::WeightKind;
 // The most steps that are told; more count as so many.
 const MOST: u8 = 254;
 
+// Like the library's minutes, but from outside: a kind needs nothing of the library but the trait.
 #[derive(Clone, Copy, Debug, PartialEq, Eq, PartialOrd, Ord)]
 pub struct Count {
     number: u8,

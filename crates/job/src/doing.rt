@@ -54,7 +54,7 @@ impl Job {
         Ok(())
     }
 
-    // Marks a step of the sheet struck or allowed, also where it is so already.
+    // Marks a step struck or allowed, also where it is so already: one body, since the two differ in a value alone.
     fn mark(&mut self, sheet: &Sheet<'_>, step: u32, struck: bool) -> Result<(), StepFault>
         ensures { PromisedCall sheet.now self.old (marking struck step) (answer_to_mark result) self.new }
     {

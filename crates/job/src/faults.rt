@@ -17,6 +17,7 @@ pub enum StepFault {
     SetAndCleared,
 }
 
+// A step's fault, or the one that only a call to do has; a route has another one, so the two are no one type.
 #[derive(Clone, Copy, Debug, PartialEq, Eq)]
 pub enum DoFault {
     Step(StepFault),

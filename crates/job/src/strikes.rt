@@ -1,4 +1,4 @@
-// Which steps are struck: a struck step is not done until it is allowed again.
+// Which steps are struck until they are allowed again; a type beside State, so that no fact is taken for a step.
 ghost use Rattle.std.specs.Prelude.{◌≡◌, ℕ, ◌<◌, false};
 ghost use Rattle.bits.specs.Bits.{put};
 ghost use Rattle.job.specs.Records.{struck_in};

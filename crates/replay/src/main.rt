@@ -32,6 +32,7 @@ fn agrees(rt: &HostRuntime, name: &str) -> io::Result<bool> {
 
 fn main(rt: HostRuntime) -> io::Result<()> {
     let names = fs::read_to_string(&rt, "days")?;
+    // Counted in the loop, since a day that differs is named as soon as it is found.
     let mut count = 0u32;
     for name in names.lines() {
         if agrees(&rt, name)? {

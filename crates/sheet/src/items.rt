@@ -85,7 +85,7 @@ fn one<'a>(words: &'a [u32], item: Item, facts: u32) -> Result<&'a [u32], Stop>
     follow(rest, *word, item.depth + 1, facts)
 }
 
-// What follows a word.
+// What follows a word, by a match: the table's rows hold data, and a function there would be a bare pointer.
 #[cycle(follow_members_one)]
 pub(crate) fn follow<'a>(
     words: &'a [u32],

@@ -64,103 +64,35 @@ pub struct Row {
     pub place: Place,
 }
 
+// A row on one line, so that the table reads as a table.
+macro_rules! row {
+    ($kind:ident, $argument:ident, $follows:ident, $place:ident) => {
+        Row {
+            kind: Kind::$kind,
+            argument: Argument::$argument,
+            follows: Follows::$follows,
+            place: Place::$place,
+        }
+    };
+}
+
 const KINDS: [Row; 16] = [
-    Row {
-        kind: Kind::Never,
-        argument: Argument::Zero,
-        follows: Follows::Nothing,
-        place: Place::Formula,
-    },
-    Row {
-        kind: Kind::Always,
-        argument: Argument::Zero,
-        follows: Follows::Nothing,
-        place: Place::Formula,
-    },
-    Row {
-        kind: Kind::Fact,
-        argument: Argument::Fact,
-        follows: Follows::Nothing,
-        place: Place::Formula,
-    },
-    Row {
-        kind: Kind::Not,
-        argument: Argument::Zero,
-        follows: Follows::Formula,
-        place: Place::Formula,
-    },
-    Row {
-        kind: Kind::All,
-        argument: Argument::Count,
-        follows: Follows::Formulas,
-        place: Place::Formula,
-    },
-    Row {
-        kind: Kind::Any,
-        argument: Argument::Count,
-        follows: Follows::Formulas,
-        place: Place::Formula,
-    },
-    Row {
-        kind: Kind::Set,
-        argument: Argument::Fact,
-        follows: Follows::Nothing,
-        place: Place::Effect,
-    },
-    Row {
-        kind: Kind::Clear,
-        argument: Argument::Fact,
-        follows: Follows::Nothing,
-        place: Place::Effect,
-    },
-    Row {
-        kind: Kind::Group,
-        argument: Argument::Count,
-        follows: Follows::Effects,
-        place: Place::Effect,
-    },
-    Row {
-        kind: Kind::When,
-        argument: Argument::Zero,
-        follows: Follows::Guarded,
-        place: Place::Effect,
-    },
-    Row {
-        kind: Kind::Step,
-        argument: Argument::Work,
-        follows: Follows::Guarded,
-        place: Place::Step,
-    },
-    Row {
-        kind: Kind::Goal,
-        argument: Argument::Zero,
-        follows: Follows::Formula,
-        place: Place::Goal,
-    },
-    Row {
-        kind: Kind::Sheet,
-        argument: Argument::Facts,
-        follows: Follows::Nothing,
-        place: Place::First,
-    },
-    Row {
-        kind: Kind::Start,
-        argument: Argument::Fact,
-        follows: Follows::Nothing,
-        place: Place::Start,
-    },
-    Row {
-        kind: Kind::End,
-        argument: Argument::Zero,
-        follows: Follows::Nothing,
-        place: Place::End,
-    },
-    Row {
-        kind: Kind::Unused,
-        argument: Argument::Zero,
-        follows: Follows::Nothing,
-        place: Place::Nowhere,
-    },
+    row!(Never, Zero, Nothing, Formula),
+    row!(Always, Zero, Nothing, Formula),
+    row!(Fact, Fact, Nothing, Formula),
+    row!(Not, Zero, Formula, Formula),
+    row!(All, Count, Formulas, Formula),
+    row!(Any, Count, Formulas, Formula),
+    row!(Set, Fact, Nothing, Effect),
+    row!(Clear, Fact, Nothing, Effect),
+    row!(Group, Count, Effects, Effect),
+    row!(When, Zero, Guarded, Effect),
+    row!(Step, Work, Guarded, Step),
+    row!(Goal, Zero, Formula, Goal),
+    row!(Sheet, Facts, Nothing, First),
+    row!(Start, Fact, Nothing, Start),
+    row!(End, Zero, Nothing, End),
+    row!(Unused, Zero, Nothing, Nowhere),
 ];
 
 pub(crate) fn row_of(word: u32) -> Row

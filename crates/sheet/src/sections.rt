@@ -112,7 +112,7 @@ impl Section {
         }
     }
 
-    // The section that a word opens, or none where it ends the sheet.
+    // The section that a word opens, or none where it ends the sheet; a match, since the table's rows hold data.
     pub(crate) fn entry(self, word: u32, facts: u32) -> Result<Option<Section>, Refusal>
         ensures { result ≡ enter facts self word }
     {

@@ -17,6 +17,7 @@ impl HighestGrade {
     const NONE: HighestGrade = HighestGrade { number: 10 };
 }
 
+// As for minutes: one text for both would need their number types and their none as parameters.
 impl From<HighestGrade> for Figure {
     ghost from_gives = { λ weight figure. figure ≡ grade_figure weight };
 

@@ -25,6 +25,7 @@ impl From<Reached> for Figure {
     }
 }
 
+// Joins as Grade does: a kind over both would take zero, none and step as members, which is WeightKind again.
 #[derive(Clone, Copy, Debug, PartialEq, Eq)]
 pub struct Reach;
 
