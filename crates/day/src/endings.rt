@@ -3,6 +3,7 @@ ghost use Rattle.std.specs.Prelude.{Some};
 ghost use Rattle.day.specs.Text.{ending_text};
 
 use sheet::SheetFault;
+use std::error::Error;
 use std::fmt;
 
 // The fault of the sheet, or the place of the word.
@@ -22,3 +23,5 @@ impl fmt::Display for Ending {
         }
     }
 }
+
+impl Error for Ending {}

@@ -54,7 +54,7 @@ impl Active {
     }
 }
 
-// Every condition is read in the state before the step.
+// Every condition is read in the state before the step; that words begin with an effect is asked, as for truth.
 pub(crate) fn active_effects(words: &[u32], before: State) -> Active
     requires { BeginsEffect words.now }
     ensures { (e : Effect) (tail : List ℕ) → EffectFirst words.now e tail

@@ -12,7 +12,7 @@ use crate::truth::truth;
 use sheet::{Kind, Sheet};
 
 // Why a step is not executed.
-#[derive(Clone, Copy)]
+#[derive(Clone, Copy, Debug, PartialEq, Eq)]
 pub enum ExecutionFault {
     NoSuchStep,
     ConditionFalse,

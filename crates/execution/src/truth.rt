@@ -23,6 +23,7 @@ struct Tallied<'a> {
     rest: &'a [u32],
 }
 
+// That the words begin with a formula is asked, and not a type: it would be written out anew at each call.
 #[cycle(members_truth)]
 pub(crate) fn truth<'a>(words: &'a [u32], state: State) -> Valued<'a>
     requires { BeginsFormula words.now }

@@ -3,6 +3,7 @@ use crate::strikes::Strikes;
 use crate::trail::Trail;
 use execution::State;
 
+// Contracts name its ledger and the sheet's tree, so that definitions hold of any record that gives the two.
 #[derive(Clone, Copy)]
 pub struct Job {
     pub(crate) state: State,

@@ -131,7 +131,7 @@ pub(crate) fn grade_of(word: u32) -> u32
     argument_of(word) / 0x1_0000
 }
 
-// Whether a word's argument is one that its kind may have, on a sheet of so many facts.
+// Whether a word's argument is one that its kind may have, with so many facts; a match, since rows hold data.
 pub(crate) fn argument_fits(word: u32, facts: u32) -> bool
     ensures { result ≡ fits facts word }
 {

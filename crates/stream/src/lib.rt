@@ -9,7 +9,7 @@ use std::alloc::Global;
 use std::io;
 use std::io::{Read, Write};
 
-// Reads once, and says whether anything came.
+// Reads once, and says whether anything came. Most functions here take input or output, so the two are no one type.
 fn fill<R: Read>(input: &mut R, pending: &mut Vec<u8>) -> io::Result<bool>
     ensures came { IfOk result (λ came. came ≡ true → vec_len pending.old < vec_len pending.new) }
     ensures kept { IfOk result (λ came. (more : List ℕ) × (pending.new.items ≡ pending.old.items ++ more) × (came ≡ false → more ≡ [])) }
