@@ -3,7 +3,7 @@ ghost use Rattle.std.specs.Prelude.{◌≡◌, ◌<◌, ◌≤◌, [], ◌∷◌
 
 const PLACES: usize = 200;
 
-// An array and its length: a view as a list forgets the places past `len`, and a copied value has to give them back.
+// An array and its length: fixed memory that can be copied, where a view as a list would forget the places past `len`.
 #[derive(Clone, Copy)]
 pub struct Trail {
     pub(crate) steps: [u8; PLACES],
