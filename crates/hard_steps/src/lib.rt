@@ -9,15 +9,11 @@ use weights::WeightKind;
 // The most steps that are told; more count as so many.
 const MOST: u8 = 254;
 
-// Like the library's minutes, but from outside: a kind needs nothing of the library but the trait.
+// In the order of weights; like the library's minutes, but from outside, where a kind needs nothing but the trait.
 #[derive(Clone, Copy, Debug, PartialEq, Eq, PartialOrd, Ord)]
-pub struct Count {
-    number: u8,
-}
-
-impl Count {
-    // A number above the most keeps the order of numbers; an Option has None first.
-    const NONE: Count = Count { number: 255 };
+pub enum Count {
+    Steps(u8),
+    None,
 }
 
 #[derive(Clone, Copy, Debug, PartialEq, Eq)]
@@ -31,11 +27,11 @@ impl WeightKind for HardSteps {
     ghost lawful = { Prim.search rules };
 
     fn zero(&self) -> Count {
-        Count { number: 0 }
+        Count::Steps(0)
     }
 
     fn none(&self) -> Count {
-        Count::NONE
+        Count::None
     }
 
     fn is_less(&self, first: Count, second: Count) -> bool {
@@ -47,18 +43,16 @@ impl WeightKind for HardSteps {
     }
 
     fn then(&self, first: Count, second: Count) -> Count {
-        if first == Count::NONE || second == Count::NONE {
-            return Count::NONE;
-        }
-        Count {
-            number: first.number.saturating_add(second.number).min(MOST),
+        match (first, second) {
+            (Count::Steps(first), Count::Steps(second)) => {
+                Count::Steps(first.saturating_add(second).min(MOST))
+            }
+            _ => Count::None,
         }
     }
 
     fn step(&self, _minutes: u16, grade: u8) -> Count {
-        Count {
-            number: u8::from(grade >= 5),
-        }
+        Count::Steps(u8::from(grade >= 5))
     }
 
     fn takes_larger(&self) -> bool {
@@ -99,7 +93,7 @@ mod tests {
         let job = Job::open(&sheet);
         match job.check(&sheet, &HardSteps, 0, &[0, 1, 0, 2]) {
             Ok(weight) => {
-                assert_eq!(rt; weight.number, 3);
+                assert_eq!(rt; weight, Count::Steps(3));
                 Ok(())
             },
             Err(_) => Err(Fail::new("the route is refused")),

@@ -11,7 +11,7 @@ use Rattle.sheet.specs.Reading.{tree, StepPart, GoalPart, behind_step, behind_go
 use Rattle.sheet.proofs.Readings.{viewed}
 use Rattle.sheet.proofs.PartPlace.{Placed, steps_placed, goals_placed}
 
-each_at : {X : Type 0} (P : X → Type 0) (xs : List X) → Each P xs → (k : ℕ) (d : X) → k < length xs → P (get_or xs k d)
+pub each_at : {X : Type 0} (P : X → Type 0) (xs : List X) → Each P xs → (k : ℕ) (d : X) → k < length xs → P (get_or xs k d)
 each_at P [] h k d lt = absurd (omega arith)
 each_at P (x ∷ xs) h zero d lt = h.0
 each_at P (x ∷ xs) h (suc k) d lt = each_at P xs h.1 k d (omega arith)

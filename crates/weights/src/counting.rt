@@ -15,6 +15,7 @@ pub type Longest = Counting<true>;
 // The capped sum for both and for then.
 pub type Sum = Counting<false>;
 
+// Two functions, so that each name is tied to its own definition.
 impl Longest {
     pub fn new() -> Longest
         ensures { ⟦<Longest as WeightKind>⟧.algebra result ≡ longest }
@@ -43,7 +44,7 @@ impl<const TAKES_LARGER: bool> WeightKind for Counting<TAKES_LARGER> {
     }
 
     fn none(&self) -> Minutes {
-        Minutes::NONE
+        Minutes::None
     }
 
     fn is_less(&self, first: Minutes, second: Minutes) -> bool {

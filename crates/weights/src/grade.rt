@@ -7,25 +7,21 @@ ghost use Rattle.std.proofs.Common.{rules};
 use crate::figure::Figure;
 use crate::kind::WeightKind;
 
+// In the order of weights: none is the greatest, where an Option has it first.
 #[derive(Clone, Copy, Debug, PartialEq, Eq, PartialOrd, Ord)]
-pub struct HighestGrade {
-    number: u8,
+pub enum HighestGrade {
+    Number(u8),
+    None,
 }
 
-impl HighestGrade {
-    // A number above the highest grade keeps the order of numbers; an Option has None first.
-    const NONE: HighestGrade = HighestGrade { number: 10 };
-}
-
-// As for minutes: one text for both would need their number types and their none as parameters.
+// As for minutes: one text for both would be generic over the number and its conversion, for two lines.
 impl From<HighestGrade> for Figure {
     ghost from_gives = { λ weight figure. figure ≡ grade_figure weight };
 
     fn from(weight: HighestGrade) -> Figure {
-        if weight == HighestGrade::NONE {
-            Figure::None
-        } else {
-            Figure::Number(u32::from(weight.number))
+        match weight {
+            HighestGrade::Number(number) => Figure::Number(u32::from(number)),
+            HighestGrade::None => Figure::None,
         }
     }
 }
@@ -41,11 +37,11 @@ impl WeightKind for Grade {
     ghost lawful = { Prim.search rules };
 
     fn zero(&self) -> HighestGrade {
-        HighestGrade { number: 0 }
+        HighestGrade::Number(0)
     }
 
     fn none(&self) -> HighestGrade {
-        HighestGrade::NONE
+        HighestGrade::None
     }
 
     fn is_less(&self, first: HighestGrade, second: HighestGrade) -> bool {
@@ -61,7 +57,7 @@ impl WeightKind for Grade {
     }
 
     fn step(&self, _minutes: u16, grade: u8) -> HighestGrade {
-        HighestGrade { number: grade }
+        HighestGrade::Number(grade)
     }
 
     fn takes_larger(&self) -> bool {
