@@ -35,8 +35,12 @@ impl Session {
 
     // Answers the whole calls among the bytes that are there; the sheet is given anew, as to each call of a job.
     pub fn feed(&mut self, sheet: &Sheet<'_>, bytes: &[u8]) -> Result<Turn, AllocError>
-        ensures turned { MatchResult result (λ turn. TurnedSession (tree sheet.now) self.old bytes.now turn self.new) (λ _. Unfinished (tree sheet.now) (ledger self.old.job) (self.old.pending.items ++ bytes.now) (ledger self.new.job)) }
-        ensures goes_on { (start : ℕ) (given told : List ℕ) → Fed (tree sheet.now) start given told self.old → IfOk result (λ turn. GoesOn (tree sheet.now) start (given ++ bytes.now) (told ++ string_bytes turn.text) turn.stopped self.new) }
+        ensures turned { MatchResult result
+            (λ turn. TurnedSession (tree sheet.now) self.old bytes.now turn self.new)
+            (λ _. Unfinished (tree sheet.now) (ledger self.old.job) (self.old.pending.items ++ bytes.now) (ledger self.new.job)) }
+        ensures goes_on { (start : ℕ) (given told : List ℕ) → Fed (tree sheet.now) start given told self.old
+            → IfOk result (λ turn. GoesOn (tree sheet.now) start (given ++ bytes.now)
+            (told ++ string_bytes turn.text) turn.stopped self.new) }
     {
         let heap = *self.pending.allocator();
         self.pending.extend_from_slice(bytes)?;
@@ -49,8 +53,10 @@ impl Session {
 
     // What is told when no more bytes come: bytes that are left are a cut word.
     pub fn end(&self) -> Result<String, AllocError>
-        ensures told { IfOk result (λ text. string_bytes text ≡ (if nat_eq (length self.now.pending.items) 0 then [] else stop_text self.now.place)) }
-        ensures ended { (t : Tree) (start : ℕ) (given told : List ℕ) → Fed t start given told self.now → IfOk result (λ text. WholeDay t start given (told ++ string_bytes text)) }
+        ensures told { IfOk result (λ text. string_bytes text
+            ≡ (if nat_eq (length self.now.pending.items) 0 then [] else stop_text self.now.place)) }
+        ensures ended { (t : Tree) (start : ℕ) (given told : List ℕ) → Fed t start given told self.now
+            → IfOk result (λ text. WholeDay t start given (told ++ string_bytes text)) }
     {
         let heap = *self.pending.allocator();
         if self.pending.is_empty() {

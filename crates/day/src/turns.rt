@@ -20,7 +20,7 @@ pub struct Turn {
     pub stopped: bool,
 }
 
-// The bytes begin with the word of this place.
+// The bytes begin with the word of this place. No method of Session, whose contract speaks of all bytes so far.
 pub(crate) fn take_turn(
     heap: Global,
     sheet: &Sheet<'_>,
@@ -28,7 +28,9 @@ pub(crate) fn take_turn(
     place: u64,
     bytes: &[u8],
 ) -> Result<Turn, AllocError>
-    ensures { MatchResult result (λ t. Turned (tree sheet.now) (ledger job.old) bytes.now place (string_bytes t.text) t.used t.stopped (ledger job.new)) (λ _. Unfinished (tree sheet.now) (ledger job.old) bytes.now (ledger job.new)) }
+    ensures { MatchResult result
+        (λ t. Turned (tree sheet.now) (ledger job.old) bytes.now place (string_bytes t.text) t.used t.stopped (ledger job.new))
+        (λ _. Unfinished (tree sheet.now) (ledger job.old) bytes.now (ledger job.new)) }
 {
     let here = words(heap, bytes)?;
     let batch = decode(heap, here.as_slice())?;

@@ -6,6 +6,7 @@ ghost use Rattle.execution.specs.Active.{active, active_any, sets, clears, true_
 ghost use Rattle.execution.specs.Gathered.{set_in, cleared_in, Added};
 ghost use Rattle.execution.specs.Reading.{BeginsEffect, BeginsEffects, EffectFirst, EffectsFirst};
 
+use crate::reads::Read;
 use crate::states::State;
 use crate::truth::truth;
 use bits::Set;
@@ -16,13 +17,6 @@ use sheet::Kind;
 pub(crate) struct Active {
     pub(crate) set: Set,
     pub(crate) cleared: Set,
-}
-
-// Active effects, and the words behind those that they were read from.
-#[derive(Clone, Copy)]
-struct Gathered<'a> {
-    active: Active,
-    rest: &'a [u32],
 }
 
 impl Active {
@@ -60,26 +54,26 @@ pub(crate) fn active_effects(words: &[u32], before: State) -> Active
     ensures { (e : Effect) (tail : List ℕ) → EffectFirst words.now e tail
         → (set_in result ≡ sets (holds before) e) × (cleared_in result ≡ clears (holds before) e) }
 {
-    gather(words, before, true, Active::none()).active
+    gather(words, before, true, Active::none()).value
 }
 
 // Adds an effect's active effects, none where a condition around it is false; its words are read all the same.
 #[cycle(gather_members)]
-fn gather<'a>(words: &'a [u32], before: State, on: bool, so_far: Active) -> Gathered<'a>
+fn gather<'a>(words: &'a [u32], before: State, on: bool, so_far: Active) -> Read<'a, Active>
     requires { BeginsEffect words.now }
     ensures { (e : Effect) (tail : List ℕ) → EffectFirst words.now e tail
-        → Added so_far on (active (holds before) e) result.active × (result.rest.now ≡ tail) }
+        → Added so_far on (active (holds before) e) result.value × (result.rest.now ≡ tail) }
 {
     let [word, rest @ ..] = words else {
         unreachable!()
     };
     match sheet::kind_of(*word) {
-        Kind::Set => Gathered {
-            active: so_far.with(sheet::argument_of(*word), true, on),
+        Kind::Set => Read {
+            value: so_far.with(sheet::argument_of(*word), true, on),
             rest,
         },
-        Kind::Clear => Gathered {
-            active: so_far.with(sheet::argument_of(*word), false, on),
+        Kind::Clear => Read {
+            value: so_far.with(sheet::argument_of(*word), false, on),
             rest,
         },
         Kind::Group => members(rest, sheet::argument_of(*word), before, on, so_far),
@@ -98,17 +92,17 @@ fn members<'a>(
     before: State,
     on: bool,
     so_far: Active,
-) -> Gathered<'a>
+) -> Read<'a, Active>
     requires { BeginsEffects words.now count }
     ensures { (es : Effects) (tail : List ℕ) → EffectsFirst words.now count es tail
-        → Added so_far on (active_any (holds before) es) result.active × (result.rest.now ≡ tail) }
+        → Added so_far on (active_any (holds before) es) result.value × (result.rest.now ≡ tail) }
 {
-    let mut gathered = Gathered {
-        active: so_far,
+    let mut gathered = Read {
+        value: so_far,
         rest: words,
     };
     for _done in 0..count {
-        gathered = gather(gathered.rest, before, on, gathered.active);
+        gathered = gather(gathered.rest, before, on, gathered.value);
     }
     gathered
 }

@@ -3,6 +3,7 @@
 
 mod active;
 mod executing;
+mod reads;
 mod states;
 mod successor;
 mod truth;

@@ -1,5 +1,5 @@
 -- The number of steps of grade five or more: the larger for both, the sum up to 254 for then.
-use Rattle.std.specs.Prelude.{ℕ, ◌+◌, Bool, min, max, true, false, cond, nat_le, nat_lt}
+use Rattle.std.specs.Prelude.{◌+◌, Bool, min, max, true, false, cond, nat_le, nat_lt}
 use Rattle.weights.specs.Algebra.{Algebra}
 use Rattle.hard_steps.specs.declared.Count.{Count}
 use Rattle.hard_steps.specs.declared.Count.TheVariants.{Steps, None}

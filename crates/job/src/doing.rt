@@ -50,6 +50,7 @@ impl Job {
             return Err(DoFault::TrailFull);
         }
         self.state = next;
+        // A number of a step on a sheet fits a byte.
         self.trail.push(step as u8);
         Ok(())
     }

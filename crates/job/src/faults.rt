@@ -8,7 +8,7 @@ use execution::ExecutionFault;
 use std::error::Error;
 use std::fmt;
 
-// Why a step may not be done in its turn.
+// Why a step may not be done in its turn: execution's causes among these, in the order of the tests.
 #[derive(Clone, Copy, Debug, PartialEq, Eq)]
 pub enum StepFault {
     NoSuchStep,

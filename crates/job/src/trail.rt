@@ -3,7 +3,7 @@ ghost use Rattle.std.specs.Prelude.{◌≡◌, ◌<◌, ◌≤◌, [], ◌∷◌
 
 const PLACES: usize = 200;
 
-// An array and its length: fixed memory that can be copied, where a view as a list would forget the places past `len`.
+// An array and its length: a job is copied, and ArrayVec is not Copy; a view as a list forgets the places past `len`.
 #[derive(Clone, Copy)]
 pub struct Trail {
     pub(crate) steps: [u8; PLACES],

@@ -46,6 +46,7 @@ impl<'a> Sheet<'a> {
     {
         let part = self.step(number)?;
         let word = part[0];
+        // Cast, since the two are proved to fit: try_from would bring an error that cannot come.
         Some(Work {
             minutes: minutes_of(word) as u16,
             grade: grade_of(word) as u8,

@@ -64,7 +64,7 @@ pub struct Row {
     pub place: Place,
 }
 
-// A row on one line, so that the table reads as a table.
+// A row on one line; a constant may call no function.
 macro_rules! row {
     ($kind:ident, $argument:ident, $follows:ident, $place:ident) => {
         Row {
@@ -95,6 +95,7 @@ const KINDS: [Row; 16] = [
     row!(Unused, Zero, Nothing, Nowhere),
 ];
 
+// Words stay numbers, as callers lend them: a type around one would be made anew at each use.
 pub(crate) fn row_of(word: u32) -> Row
     ensures { result ≡ row word }
 {

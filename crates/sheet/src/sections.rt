@@ -5,7 +5,7 @@ ghost use Rattle.sheet.specs.Survey.{enter, enter_start, enter_step, enter_goal,
 use crate::faults::{Cause, Part, Refusal};
 use crate::kinds::{Place, argument_fits, argument_of, row_of};
 
-// The most steps and goals that a sheet may have.
+// The most steps and goals that a sheet may have: a number below fits a byte, so it is cast without an error.
 const MOST_STEPS: u32 = 64;
 
 const MOST_GOALS: u32 = 8;

@@ -46,7 +46,7 @@ fn close(rest: &[u32], section: Section, facts: u32, total: usize) -> Result<Cou
     })
 }
 
-// The words behind the first, in a sheet of `total` words.
+// The words behind the first. That `total` is no less is asked: a type of both would be made anew at each word.
 fn parts(words: &[u32], facts: u32, total: usize) -> Result<Counts, SheetFault>
     requires { length words.now ≤ total }
     ensures { result ≡ scan total facts (Starts 0) [] words.now }

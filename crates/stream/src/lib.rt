@@ -59,6 +59,7 @@ fn run_calls<R: Read, W: Write>(
     output: &mut W,
 ) -> io::Result<()> {
     let mut buffer = [0u8; 4096];
+    // By count, since a loop has to be shown to end.
     for _ in 0..u64::MAX {
         let count = input.read(&mut buffer)?;
         if count == 0 {

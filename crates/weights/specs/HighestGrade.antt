@@ -1,5 +1,5 @@
 -- Grades from 0 to 9, and none.
-use Rattle.std.specs.Prelude.{ℕ, max, Bool, true, false, nat_le, nat_lt}
+use Rattle.std.specs.Prelude.{max, Bool, true, false, nat_le, nat_lt}
 use Rattle.weights.specs.declared.grade.HighestGrade.{HighestGrade}
 use Rattle.weights.specs.declared.grade.HighestGrade.TheVariants.{Number, None}
 

@@ -1,4 +1,4 @@
-// A weight of a named kind as it is told: none is one of the things told, so it is no Option.
+// A weight of a named kind as it is told: three cases at once, where an Option of two would be matched twice.
 #[derive(Clone, Copy, Debug, PartialEq, Eq)]
 pub enum Figure {
     Number(u32),

@@ -17,6 +17,7 @@ pub trait WeightKind {
     fn none(&self) -> Self::Weight
         ensures { result ≡ (algebra self.now).none };
 
+    // A function of its own, since to ask Ord of the weights would ask more of a kind.
     fn is_less(&self, first: Self::Weight, second: Self::Weight) -> bool
         ensures { result ≡ (algebra self.now).less first second };
 
@@ -28,7 +29,7 @@ pub trait WeightKind {
     fn then(&self, first: Self::Weight, second: Self::Weight) -> Self::Weight
         ensures { result ≡ (algebra self.now).then first second };
 
-    // The weight of a step, for its minutes and grade; the laws speak of those that a sheet can give it.
+    // The weight of a step by numbers that a sheet can give, and not by a type of the sheet, which no kind needs.
     fn step(&self, minutes: u16, grade: u8) -> Self::Weight
         ensures { result ≡ (algebra self.now).step minutes grade };
 

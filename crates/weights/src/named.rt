@@ -18,6 +18,7 @@ pub enum NamedKind {
 pub struct UnknownKind(pub u32);
 
 impl NamedKind {
+    // Beside Display, whose writer may fail where this cannot.
     pub fn name(self) -> &'static str
         ensures { result.now ≡ kind_name self }
     {

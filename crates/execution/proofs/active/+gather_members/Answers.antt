@@ -89,4 +89,4 @@ pub members-returns : goal.members-returns
 members-returns t c es tail p =
     let left = c.loop-done.invariant es tail p in
     let none = no_members _ _ tail (omega arith) left.effects left.first in
-    (left.added (rw none.0 (none_added c.loop-done.gathered.active c.args.on)), none.1)
+    (left.added (rw none.0 (none_added c.loop-done.gathered.value c.args.on)), none.1)

@@ -15,4 +15,4 @@ abbrev pub invariant-members-loop-done : goal.invariant-members-loop-done
 invariant-members-loop-done l =
     (es : Effects) (tail : List ℕ)
     → EffectsFirst l.initial.words l.count es tail
-    → Left (holds l.before) l.initial.words es l.on l.fn.so_far l.gathered.active l.gathered.rest.now (l.count - l._done) tail
+    → Left (holds l.before) l.initial.words es l.on l.fn.so_far l.gathered.value l.gathered.rest.now (l.count - l._done) tail

@@ -15,4 +15,4 @@ abbrev pub invariant-members-loop-done : goal.invariant-members-loop-done
 invariant-members-loop-done l =
     (fs : Formulas) (tail : List ℕ)
     → FormulasFirst l.initial.words l.count fs tail
-    → Left (holds l.state) l.initial.words fs l.tallied.all l.tallied.any l.tallied.rest.now (l.count - l._done) tail
+    → Left (holds l.state) l.initial.words fs l.tally.all l.tally.any l.rest (l.count - l._done) tail
