@@ -40,7 +40,7 @@ impl<const TAKES_LARGER: bool> WeightKind for Counting<TAKES_LARGER> {
     ghost lawful = { Prim.search rules };
 
     fn zero(&self) -> Minutes {
-        Minutes::from(0)
+        Minutes::Number(0)
     }
 
     fn none(&self) -> Minutes {
