@@ -1,43 +1,41 @@
 -- The four kinds: longest, sum, grade and reach.
-use Rattle.std.specs.Prelude.{Bool, true, false, if◌then◌else◌}
-use Rattle.weights.specs.declared.grade.HighestGrade.{HighestGrade}
-use Rattle.weights.specs.declared.minutes.Minutes.{Minutes}
+use Rattle.std.specs.Prelude.{ℕ, Bool, true, false, if◌then◌else◌}
+use Rattle.weights.specs.declared.numbers.OrNone.{OrNone}
 use Rattle.weights.specs.declared.reach.Reached.{Reached}
 use Rattle.weights.specs.Algebra.{Algebra}
-use Rattle.weights.specs.HighestGrade.{is_grade, less_grade, higher}
-use Rattle.weights.specs.Minutes.{are_minutes, less_minutes, larger, capped_sum}
+use Rattle.weights.specs.Numbers.{top, at_most, less as less_number, larger, capped_sum}
 use Rattle.weights.specs.Reached.{joined, less_reached}
 
 -- a kind that counts minutes: the larger, or else the sum, for things that are both wanted
-abbrev pub counting : Bool → Algebra Minutes
+abbrev pub counting : Bool → Algebra (OrNone ℕ)
 counting takes_larger =
     record {
-      is_weight = are_minutes;
-      zero = Minutes.Number 0;
-      none = Minutes.None;
-      less = less_minutes;
+      is_weight = at_most top;
+      zero = OrNone.Number 0;
+      none = OrNone.None;
+      less = less_number;
       both = (if takes_larger then larger else capped_sum);
       then = capped_sum;
-      step = λ m g. Minutes.Number m;
+      step = λ m g. OrNone.Number m;
       takes_larger = takes_larger;
     }
 
-abbrev pub longest : Algebra Minutes
+abbrev pub longest : Algebra (OrNone ℕ)
 longest = counting true
 
-abbrev pub sum : Algebra Minutes
+abbrev pub sum : Algebra (OrNone ℕ)
 sum = counting false
 
-abbrev pub grade : Algebra HighestGrade
+abbrev pub grade : Algebra (OrNone ℕ)
 grade =
     record {
-      is_weight = is_grade;
-      zero = HighestGrade.Number 0;
-      none = HighestGrade.None;
-      less = less_grade;
-      both = higher;
-      then = higher;
-      step = λ m g. HighestGrade.Number g;
+      is_weight = at_most 9;
+      zero = OrNone.Number 0;
+      none = OrNone.None;
+      less = less_number;
+      both = larger;
+      then = larger;
+      step = λ m g. OrNone.Number g;
       takes_larger = true;
     }
 

@@ -1,7 +1,6 @@
 pub mod Algebra
 pub mod Laws
-pub mod Minutes
-pub mod HighestGrade
+pub mod Numbers
 pub mod Reached
 pub mod Kinds
 pub mod Figures

@@ -5,6 +5,7 @@ ghost use Rattle.std.proofs.Common.{rules};
 
 use crate::kind::WeightKind;
 use crate::minutes::Minutes;
+use crate::numbers::OrNone;
 
 #[derive(Clone, Copy, Debug, PartialEq, Eq)]
 pub struct Counting<const TAKES_LARGER: bool>;
@@ -40,11 +41,11 @@ impl<const TAKES_LARGER: bool> WeightKind for Counting<TAKES_LARGER> {
     ghost lawful = { Prim.search rules };
 
     fn zero(&self) -> Minutes {
-        Minutes::Number(0)
+        OrNone::Number(0)
     }
 
     fn none(&self) -> Minutes {
-        Minutes::None
+        OrNone::None
     }
 
     fn is_less(&self, first: Minutes, second: Minutes) -> bool {

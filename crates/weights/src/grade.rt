@@ -1,27 +1,23 @@
 // Grade: the highest grade among the steps, the larger for both and for then.
 ghost use Rattle.std.specs.Prelude.{◌≡◌};
-ghost use Rattle.weights.specs.Figures.{grade_figure};
+ghost use Rattle.weights.specs.Figures.{number_figure};
 ghost use Rattle.weights.specs.Kinds.{grade};
 ghost use Rattle.std.proofs.Common.{rules};
 
 use crate::figure::Figure;
 use crate::kind::WeightKind;
+use crate::numbers::OrNone;
 
-// In the order of weights: none is the greatest, where an Option has it first.
-#[derive(Clone, Copy, Debug, PartialEq, Eq, PartialOrd, Ord)]
-pub enum HighestGrade {
-    Number(u8),
-    None,
-}
+pub type HighestGrade = OrNone<u8>;
 
-// As for minutes: one text for both would be generic over the number and its conversion, for two lines.
+// As for minutes: a text for both could not say which number the conversion of an unknown type gives.
 impl From<HighestGrade> for Figure {
-    ghost from_gives = { λ weight figure. figure ≡ grade_figure weight };
+    ghost from_gives = { λ weight figure. figure ≡ number_figure weight };
 
     fn from(weight: HighestGrade) -> Figure {
         match weight {
-            HighestGrade::Number(number) => Figure::Number(u32::from(number)),
-            HighestGrade::None => Figure::None,
+            OrNone::Number(number) => Figure::Number(u32::from(number)),
+            OrNone::None => Figure::None,
         }
     }
 }
@@ -37,11 +33,11 @@ impl WeightKind for Grade {
     ghost lawful = { Prim.search rules };
 
     fn zero(&self) -> HighestGrade {
-        HighestGrade::Number(0)
+        OrNone::Number(0)
     }
 
     fn none(&self) -> HighestGrade {
-        HighestGrade::None
+        OrNone::None
     }
 
     fn is_less(&self, first: HighestGrade, second: HighestGrade) -> bool {
@@ -57,7 +53,7 @@ impl WeightKind for Grade {
     }
 
     fn step(&self, _minutes: u16, grade: u8) -> HighestGrade {
-        HighestGrade::Number(grade)
+        OrNone::Number(grade)
     }
 
     fn takes_larger(&self) -> bool {

@@ -7,6 +7,7 @@ mod grade;
 mod kind;
 mod minutes;
 mod named;
+mod numbers;
 mod reach;
 
 pub use counting::{Counting, Longest, Sum};
@@ -15,4 +16,5 @@ pub use grade::{Grade, HighestGrade};
 pub use kind::WeightKind;
 pub use minutes::Minutes;
 pub use named::{NamedKind, UnknownKind};
+pub use numbers::OrNone;
 pub use reach::{Reach, Reached};
