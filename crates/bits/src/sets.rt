@@ -2,39 +2,29 @@
 ghost use Rattle.std.specs.Prelude.{◌≡◌, ℕ, ◌^◌, ◌<◌, ◌≤◌, true, false, not, ◌&&◌, ◌||◌, Decides};
 ghost use Rattle.bits.specs.Bits.{bit, put};
 
-use std::marker::Model;
-
-#[derive(Clone, Copy)]
+// Every number is a set. No impl Model: a Copy struct around a type with one is not copied where it is used again.
+#[derive(Clone, Copy, Debug, PartialEq, Eq)]
 pub struct Set {
-    bits: u64,
-}
-
-impl Model for Set {
-    ghost Value = { ℕ };
-
-    ghost view = { λ s. s.bits };
-
-    ghost invariant = { λ s. s.bits < 2 ^ 64 };
-
-    ghost inverse = { λ n. record { bits = n } };
+    pub bits: u64,
+    ghost few: { bits < 2 ^ 64 },
 }
 
 impl Set {
     pub fn none() -> Set
-        ensures { (k : ℕ) → bit result k ≡ false }
+        ensures { (k : ℕ) → bit result.bits k ≡ false }
     {
         Set { bits: 0 }
     }
 
     pub fn has(self, place: u32) -> bool
-        ensures { result ≡ bit self place }
+        ensures { result ≡ bit self.bits place }
     {
         place < 64 && (self.bits >> place) & 1 == 1
     }
 
     // The set with a number put in or taken out; numbers from 64 on are never in it.
     pub fn put(self, place: u32, member: bool) -> Set
-        ensures within { place < 64 → bit result ≡ put (bit self) place member }
+        ensures within { place < 64 → bit result.bits ≡ put (bit self.bits) place member }
         ensures beyond { 64 ≤ place → result ≡ self }
     {
         if place >= 64 {
@@ -49,7 +39,7 @@ impl Set {
     }
 
     pub fn union(self, other: Set) -> Set
-        ensures { (k : ℕ) → bit result k ≡ (bit self k || bit other k) }
+        ensures { (k : ℕ) → bit result.bits k ≡ (bit self.bits k || bit other.bits k) }
     {
         Set {
             bits: self.bits | other.bits,
@@ -57,7 +47,7 @@ impl Set {
     }
 
     pub fn difference(self, other: Set) -> Set
-        ensures { (k : ℕ) → bit result k ≡ (bit self k && not (bit other k)) }
+        ensures { (k : ℕ) → bit result.bits k ≡ (bit self.bits k && not (bit other.bits k)) }
     {
         Set {
             bits: self.bits & !other.bits,
@@ -66,7 +56,7 @@ impl Set {
 
     // Whether some number is in both.
     pub fn meets(self, other: Set) -> bool
-        ensures { Decides result ((k : ℕ) × (bit self k ≡ true) × (bit other k ≡ true)) }
+        ensures { Decides result ((k : ℕ) × (bit self.bits k ≡ true) × (bit other.bits k ≡ true)) }
     {
         self.bits & other.bits != 0
     }

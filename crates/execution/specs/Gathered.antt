@@ -5,10 +5,10 @@ use Rattle.execution.specs.declared.active.Active.{Active}
 use Rattle.execution.specs.Active.{true_literal, false_literal}
 
 abbrev pub set_in : Active → ℕ → Bool
-set_in a f = bit a.set f
+set_in a f = bit a.set.bits f
 
 abbrev pub cleared_in : Active → ℕ → Bool
-cleared_in a f = bit a.cleared f
+cleared_in a f = bit a.cleared.bits f
 
 -- the active effects so far, with these literals besides where they are on
 pub record Added (before : Active) (on : Bool) (literals : ℕ → Bool) (after : Active) : Type 0 where

@@ -4,4 +4,4 @@ use Rattle.bits.specs.Bits.{bit}
 use Rattle.execution.specs.declared.states.State.{State}
 
 abbrev pub holds : State → ℕ → Bool
-holds s f = bit s f
+holds s f = bit s.bits.bits f

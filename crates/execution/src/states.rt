@@ -4,21 +4,10 @@ ghost use Rattle.bits.specs.Bits.{put};
 ghost use Rattle.execution.specs.State.{holds};
 
 use bits::Set;
-use std::marker::Model;
 
 #[derive(Clone, Copy)]
 pub struct State {
     pub(crate) bits: Set,
-}
-
-impl Model for State {
-    ghost use Rattle.std.specs.Prelude.{ℕ};
-
-    ghost Value = { ℕ };
-
-    ghost view = { λ s. s.bits };
-
-    ghost inverse = { λ n. record { bits = n } };
 }
 
 impl State {

@@ -9,7 +9,7 @@ use Rattle.job.specs.Answers.{Answer}
 use Rattle.job.specs.Ledger.{Ledger}
 
 abbrev pub struck_in : Strikes → ℕ → Bool
-struck_in s k = bit s.bits k
+struck_in s k = bit s.bits.bits k
 
 abbrev pub done : Trail → List ℕ
 done t = take t.len t.steps

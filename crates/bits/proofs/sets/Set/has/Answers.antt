@@ -7,10 +7,8 @@ use Rattle.bits.proofs.sets.Set.has.Goals as goal
 
 pub returns-then-place-lt64 : goal.returns-then-place-lt64
 unfolding bit
-returns-then-place-lt64 c =
-    rw (← c.self.view_is) (ap (λ (n : ℕ). eqb n 1) (shr_and_one c.self.inside.bits c.args.place))
+returns-then-place-lt64 c = ap (λ (n : ℕ). eqb n 1) (shr_and_one c.args.self.bits c.args.place)
 
 pub returns-else-place-lt64 : goal.returns-else-place-lt64
 returns-else-place-lt64 c =
-    rw (← c.self.view_is)
-    (le-ltb _ _ c.if-place-lt64.false ∙ sym (bit_beyond _ _ _ c.self.invariant c.if-place-lt64.false))
+    le-ltb _ _ c.if-place-lt64.false ∙ sym (bit_beyond _ _ _ c.args.self.few c.if-place-lt64.false)

@@ -2,4 +2,4 @@ use Rattle.bits.proofs.BitLaws.{meets_decided}
 use Rattle.bits.proofs.sets.Set.meets.Goals as goal
 
 pub returns : goal.returns
-returns c = rw (← c.self.view_is, ← c.other.view_is) (meets_decided _ _ c.self.invariant)
+returns c = meets_decided _ _ 64 c.args.self.few

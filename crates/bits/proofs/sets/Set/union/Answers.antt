@@ -3,7 +3,7 @@ use Rattle.bits.proofs.BitLaws.{bit_of_or}
 use Rattle.bits.proofs.sets.Set.union.Goals as goal
 
 pub returns : goal.returns
-returns c = rw (← c.self.view_is, ← c.other.view_is) (bit_of_or _ _)
+returns c = bit_of_or _ _
 
 pub invariant_of-result : goal.invariant_of-result
-invariant_of-result c = or_lt 64 _ _ c.self.invariant c.other.invariant
+invariant_of-result c = record { few = or_lt 64 _ _ c.args.self.few c.args.other.few }
