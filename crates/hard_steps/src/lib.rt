@@ -9,11 +9,15 @@ use weights::WeightKind;
 // The most steps that are told; more count as so many.
 const MOST: u8 = 254;
 
-// In the order of weights; like the library's minutes, but from outside, where a kind needs nothing but the trait.
+// Like the library's minutes, but from outside: a kind needs nothing of the library but the trait.
 #[derive(Clone, Copy, Debug, PartialEq, Eq, PartialOrd, Ord)]
-pub enum Count {
-    Steps(u8),
-    None,
+pub struct Count {
+    number: u8,
+}
+
+impl Count {
+    // A number above the most keeps the order of numbers; as a case of an enum, anyone could make 255 a number.
+    const NONE: Count = Count { number: 255 };
 }
 
 #[derive(Clone, Copy, Debug, PartialEq, Eq)]
@@ -27,11 +31,11 @@ impl WeightKind for HardSteps {
     ghost lawful = { Prim.search rules };
 
     fn zero(&self) -> Count {
-        Count::Steps(0)
+        Count { number: 0 }
     }
 
     fn none(&self) -> Count {
-        Count::None
+        Count::NONE
     }
 
     fn is_less(&self, first: Count, second: Count) -> bool {
@@ -43,16 +47,18 @@ impl WeightKind for HardSteps {
     }
 
     fn then(&self, first: Count, second: Count) -> Count {
-        match (first, second) {
-            (Count::Steps(first), Count::Steps(second)) => {
-                Count::Steps(first.saturating_add(second).min(MOST))
-            }
-            _ => Count::None,
+        if first == Count::NONE || second == Count::NONE {
+            return Count::NONE;
+        }
+        Count {
+            number: first.number.saturating_add(second.number).min(MOST),
         }
     }
 
     fn step(&self, _minutes: u16, grade: u8) -> Count {
-        Count::Steps(u8::from(grade >= 5))
+        Count {
+            number: u8::from(grade >= 5),
+        }
     }
 
     fn takes_larger(&self) -> bool {
@@ -93,7 +99,7 @@ mod tests {
         let job = Job::open(&sheet);
         match job.check(&sheet, &HardSteps, 0, &[0, 1, 0, 2]) {
             Ok(weight) => {
-                assert_eq!(rt; weight, Count::Steps(3));
+                assert_eq!(rt; weight.number, 3);
                 Ok(())
             },
             Err(_) => Err(Fail::new("the route is refused")),

@@ -1,6 +1,7 @@
 pub mod Algebra
 pub mod Laws
-pub mod Numbers
+pub mod Minutes
+pub mod HighestGrade
 pub mod Reached
 pub mod Kinds
 pub mod Figures

@@ -4,7 +4,7 @@ use Rattle.sheet.specs.Trees.{Step, Tree, step_at}
 use Rattle.weights.specs.declared.figure.Figure.{Figure}
 use Rattle.weights.specs.declared.named.NamedKind.{NamedKind}
 use Rattle.weights.specs.Algebra.{Algebra}
-use Rattle.weights.specs.Figures.{number_figure, reach_figure}
+use Rattle.weights.specs.Figures.{minutes_figure, grade_figure, reach_figure}
 use Rattle.weights.specs.Kinds.{longest, sum, grade, reach}
 
 abbrev pub step_weight : {W : Type 0} → Algebra W → Step → W
@@ -20,7 +20,7 @@ route_weight a t ks = weight_after a t a.zero ks
 
 -- a route's weight as a named kind tells it
 abbrev pub route_figure : NamedKind → Tree → List ℕ → Figure
-route_figure NamedKind.Longest t ks = number_figure (route_weight longest t ks)
-route_figure NamedKind.Sum t ks = number_figure (route_weight sum t ks)
-route_figure NamedKind.Grade t ks = number_figure (route_weight grade t ks)
+route_figure NamedKind.Longest t ks = minutes_figure (route_weight longest t ks)
+route_figure NamedKind.Sum t ks = minutes_figure (route_weight sum t ks)
+route_figure NamedKind.Grade t ks = grade_figure (route_weight grade t ks)
 route_figure NamedKind.Reach t ks = reach_figure (route_weight reach t ks)

@@ -5,7 +5,6 @@ ghost use Rattle.std.proofs.Common.{rules};
 
 use crate::kind::WeightKind;
 use crate::minutes::Minutes;
-use crate::numbers::OrNone;
 
 #[derive(Clone, Copy, Debug, PartialEq, Eq)]
 pub struct Counting<const TAKES_LARGER: bool>;
@@ -41,11 +40,11 @@ impl<const TAKES_LARGER: bool> WeightKind for Counting<TAKES_LARGER> {
     ghost lawful = { Prim.search rules };
 
     fn zero(&self) -> Minutes {
-        OrNone::Number(0)
+        Minutes::from(0)
     }
 
     fn none(&self) -> Minutes {
-        OrNone::None
+        Minutes::NONE
     }
 
     fn is_less(&self, first: Minutes, second: Minutes) -> bool {

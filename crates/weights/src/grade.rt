@@ -1,23 +1,32 @@
 // Grade: the highest grade among the steps, the larger for both and for then.
 ghost use Rattle.std.specs.Prelude.{◌≡◌};
-ghost use Rattle.weights.specs.Figures.{number_figure};
+ghost use Rattle.weights.specs.Figures.{grade_figure};
 ghost use Rattle.weights.specs.Kinds.{grade};
 ghost use Rattle.std.proofs.Common.{rules};
 
 use crate::figure::Figure;
 use crate::kind::WeightKind;
-use crate::numbers::OrNone;
 
-pub type HighestGrade = OrNone<u8>;
+// No enum of a number or none: in its order a number above nine, of which no law speaks, would come before none.
+#[derive(Clone, Copy, Debug, PartialEq, Eq, PartialOrd, Ord)]
+pub struct HighestGrade {
+    number: u8,
+}
 
-// As for minutes: a text for both could not say which number the conversion of an unknown type gives.
+impl HighestGrade {
+    // A number above the highest grade keeps the order of numbers; an Option has None first.
+    const NONE: HighestGrade = HighestGrade { number: 10 };
+}
+
+// As for minutes: one text for both would need their number types and their none as parameters.
 impl From<HighestGrade> for Figure {
-    ghost from_gives = { λ weight figure. figure ≡ number_figure weight };
+    ghost from_gives = { λ weight figure. figure ≡ grade_figure weight };
 
     fn from(weight: HighestGrade) -> Figure {
-        match weight {
-            OrNone::Number(number) => Figure::Number(u32::from(number)),
-            OrNone::None => Figure::None,
+        if weight == HighestGrade::NONE {
+            Figure::None
+        } else {
+            Figure::Number(u32::from(weight.number))
         }
     }
 }
@@ -33,11 +42,11 @@ impl WeightKind for Grade {
     ghost lawful = { Prim.search rules };
 
     fn zero(&self) -> HighestGrade {
-        OrNone::Number(0)
+        HighestGrade { number: 0 }
     }
 
     fn none(&self) -> HighestGrade {
-        OrNone::None
+        HighestGrade::NONE
     }
 
     fn is_less(&self, first: HighestGrade, second: HighestGrade) -> bool {
@@ -53,7 +62,7 @@ impl WeightKind for Grade {
     }
 
     fn step(&self, _minutes: u16, grade: u8) -> HighestGrade {
-        OrNone::Number(grade)
+        HighestGrade { number: grade }
     }
 
     fn takes_larger(&self) -> bool {

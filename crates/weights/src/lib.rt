@@ -7,7 +7,6 @@ mod grade;
 mod kind;
 mod minutes;
 mod named;
-mod numbers;
 mod reach;
 
 pub use counting::{Counting, Longest, Sum};
@@ -16,5 +15,4 @@ pub use grade::{Grade, HighestGrade};
 pub use kind::WeightKind;
 pub use minutes::Minutes;
 pub use named::{NamedKind, UnknownKind};
-pub use numbers::OrNone;
 pub use reach::{Reach, Reached};
