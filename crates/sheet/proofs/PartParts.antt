@@ -18,11 +18,11 @@ each_at P (x ∷ xs) h (suc k) d lt = each_at P xs h.1 k d (omega arith)
 
 module _ {sought : Kind} {count : ℕ} {part : ℕ → List ℕ} {ws : List ℕ} (placed : Placed sought count part ws) (k : ℕ) where
   -- words that are found belong to a part
-  found_part : (found : List ℕ) → found ≡ from_kind sought k ws → 0 < length found → k < count
+  pub found_part : (found : List ℕ) → found ≡ from_kind sought k ws → 0 < length found → k < count
   found_part found e some =
       ⊎_elim (λ lt. lt) (λ past. absurd (omega (arith, some, ap length (e ∙ placed.past k past)))) (cases_lt k count)
 
-  found_nothing : from_kind sought k ws ≡ [] → 0 < length (part k) → count ≤ k
+  pub found_nothing : from_kind sought k ws ≡ [] → 0 < length (part k) → count ≤ k
   found_nothing e some =
       ⊎_elim (λ lt. absurd (omega (arith, some, ap length (sym (placed.begun k lt) ∙ e)))) (λ past. past) (cases_lt k count)
 

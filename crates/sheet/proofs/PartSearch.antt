@@ -1,8 +1,10 @@
 -- The search for a word of a kind, word by word.
-use Rattle.std.proofs.Common.{◌≡◌, ℕ, zero, suc, ◌+◌, ◌-◌, ◌<◌, ◌≤◌, Bool, true, false, List, [], ◌∷◌, cond, length, drop, Some, None, Option, MatchOption, subst, sym, refl, ap, ◌∙◌, arith}
+use Rattle.std.proofs.Common.{◌≡◌, ℕ, zero, suc, ◌+◌, ◌-◌, ◌<◌, ◌≤◌, Bool, true, false, List, [], ◌∷◌, cond, length, drop, Some, None, Option, MatchOption, subst, sym, refl, ap, ◌∙◌, ◌==◌, arith}
 use Rattle.std.specs.Option.{option_map}
 use Rattle.std.specs.List.{slice_get, filter, enumerate_from}
 use Rattle.sheet.specs.declared.kinds.Kind.{Kind}
+use Rattle.sheet.specs.Decoding.{decode, tree_of, Read, put}
+use Rattle.sheet.specs.Kinds.{code, row}
 use Rattle.sheet.specs.KindPlaces.{is_of, walk_on, from_kind}
 
 pub from_none : (kind : Kind) (k : ℕ) → from_kind kind k [] ≡ []
@@ -50,3 +52,17 @@ found_by v kind k ws (Some x) e =
     let t : Told kind 0 k ws (Some (v x)) = subst (Told kind 0 k ws) (sym e) (told kind 0 ws k) in
     let whole : (v x).0 - 0 ≡ (v x).0 = omega arith in
     (omega arith, rw whole at t.2)
+
+count_past : (kind : Kind) (k w : ℕ) (ws : List ℕ) (r : Read)
+    → ((j : ℕ) → length r.tree.steps ≤ j → from_kind Kind.Step j ws ≡ [])
+    → length (put kind w r).tree.steps ≤ k
+    → walk_on (code kind == code Kind.Step) k (w ∷ ws) (λ j. from_kind Kind.Step j ws) ≡ []
+count_past Kind.Step zero w ws r none h = absurd (omega arith)
+count_past Kind.Step (suc k) w ws r none h = none k (omega arith)
+count_past kind k w ws r none h = none k h
+
+-- a number that no step has finds nothing, in words that are no sheet too
+pub from_past : (ws : List ℕ) (k : ℕ) → length (tree_of ws).steps ≤ k → from_kind Kind.Step k ws ≡ []
+unfolding decode from_kind
+from_past [] k h = refl
+from_past (w ∷ ws) k h = count_past (row w).kind k w ws (decode ws) (from_past ws) h

@@ -20,14 +20,16 @@ one-returns-in_default t c =
     let none : length c.args.words.now ≤ 0 = search rules in
     record { reads = unpaid_end _ _ _ (omega arith); shorter = tt }
 
-pub one-returns-in_err-map_err : goal.one-returns-in_err-map_err
-one-returns-in_err-map_err t c =
-    let p = err_from_is_err_and c.from_residual.result c.from_residual.ensures.1 in
+pub one-returns-in-Err : goal.one-returns-in-Err
+one-returns-in-Err t c =
     let some : 0 < length c.args.words.now = search rules in
-    rw (p.1, p.2) (record { reads = unpaid_word _ _ _ _ _ (first_rest c.args.words.now 0 some) c.admit.result c.admit.ensures _ (search rules); shorter = tt })
+    record {
+      reads = unpaid_word _ _ _ _ _ (first_rest c.args.words.now 0 some) c.admit.result c.admit.ensures _ (search rules);
+      shorter = tt;
+    }
 
-pub one-returns : goal.one-returns
-one-returns t c =
+pub one-returns-in-Ok : goal.one-returns-in-Ok
+one-returns-in-Ok t c =
     let some : 0 < length c.args.words.now = search rules in
     let split = first_rest c.args.words.now 0 some in
     let p = c.follow.ensures.reads in
