@@ -31,7 +31,7 @@ encode_append : (cs ds : List Call) → flat_map encode_call (cs ++ ds) ≡ flat
 encode_append [] ds = refl
 encode_append (c ∷ cs) ds = ap (λ (ws : List ℕ). encode_call c ++ ws) (encode_append cs ds)
 
-length_encoded : (cs : List Call) → length (flat_map encode_call cs) ≡ length cs
+pub length_encoded : (cs : List Call) → length (flat_map encode_call cs) ≡ length cs
 length_encoded [] = refl
 length_encoded (c ∷ cs) = ap suc (length_encoded cs)
 
@@ -47,7 +47,7 @@ pub calls_within : (bs : List ℕ) (cs : List Call) (s : Bool) → Decoded (whol
 calls_within bs cs s x =
     omega (arith, words_within bs, ap length x.whole, length-append (flat_map encode_call cs) x.rest, length_encoded cs)
 
-whole_calls : (ws : List ℕ) (cs : List Call) → Decoded ws cs false → ws ≡ flat_map encode_call cs
+pub whole_calls : (ws : List ℕ) (cs : List Call) → Decoded ws cs false → ws ≡ flat_map encode_call cs
 whole_calls ws cs x =
     x.whole ∙ ap (λ (r : List ℕ). flat_map encode_call cs ++ r) x.ends ∙ append-nil (flat_map encode_call cs)
 

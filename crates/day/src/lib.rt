@@ -11,7 +11,7 @@ mod turns;
 
 pub use bytes::words;
 pub use decoding::{Batch, decode};
-pub use endings::Ending;
+pub use endings::{Ending, Stop};
 pub use opening::{Opening, open, opening_size};
 pub use sessions::Session;
 pub use text::{Line, lines};

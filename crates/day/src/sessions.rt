@@ -7,7 +7,7 @@ ghost use Rattle.day.specs.Sessions.{TurnedSession, first_place, Fed, WholeDay, 
 ghost use Rattle.day.specs.Text.{stop_text};
 ghost use Rattle.day.specs.Turning.{Unfinished};
 
-use crate::endings::Ending;
+use crate::endings::Stop;
 use crate::turns::{Turn, take_turn};
 use job::Job;
 use sheet::Sheet;
@@ -62,6 +62,6 @@ impl Session {
         if self.pending.is_empty() {
             return Ok(String::new(heap));
         }
-        Ending::Stopped(self.place).to_string(heap)
+        Stop(self.place).to_string(heap)
     }
 }

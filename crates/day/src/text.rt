@@ -16,11 +16,16 @@ pub struct Line {
 impl fmt::Display for Line {
     ghost output = { λ l. Some (line_text l.call l.answer) };
 
+    // By the fmt of its parts, since as pieces of a write! each would be a call, and a refusal take half as long again.
     fn fmt<W: fmt::Write>(&self, f: &mut fmt::Formatter<W>) -> fmt::Result {
-        let call = self.call;
+        self.call.fmt(f)?;
         match self.answer {
-            Ok(()) => writeln!(f, "{call}: done"),
-            Err(fault) => writeln!(f, "{call}: {fault}"),
+            Ok(()) => f.write_str(": done\n"),
+            Err(fault) => {
+                f.write_str(": ")?;
+                fault.fmt(f)?;
+                f.write_str("\n")
+            }
         }
     }
 }

@@ -6,7 +6,7 @@ ghost use Rattle.sheet.specs.Reading.{tree};
 
 use crate::bytes::words;
 use crate::decoding::decode;
-use crate::endings::Ending;
+use crate::endings::Stop;
 use crate::text::lines;
 use job::Job;
 use sheet::Sheet;
@@ -39,8 +39,8 @@ pub(crate) fn take_turn(
     let used = batch.calls.len();
     let stopped = batch.stopped;
     if stopped {
-        let ending = Ending::Stopped(place.saturating_add(used as u64));
-        write!(text, "{ending}")?;
+        let stop = Stop(place.saturating_add(used as u64));
+        write!(text, "{stop}")?;
     }
     Ok(Turn {
         text,
