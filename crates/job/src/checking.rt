@@ -73,11 +73,12 @@ impl Job {
         if goal >= sheet.goals() {
             return Err(CheckFault::NoSuchGoal);
         }
-        let end = self.walk(sheet, kind, route)?;
-        if execution::satisfied(sheet, goal, end.state).unwrap_or(false) {
-            Ok(end.weight)
-        } else {
-            Err(RouteFault::GoalFalse.at(route.len()))
+        match self.walk(sheet, kind, route) {
+            Ok(end) if execution::satisfied(sheet, goal, end.state).unwrap_or(false) => {
+                Ok(end.weight)
+            }
+            Ok(_) => Err(RouteFault::GoalFalse.at(route.len())),
+            Err(fault) => Err(fault),
         }
     }
 }
